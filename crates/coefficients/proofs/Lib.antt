@@ -1,0 +1,10 @@
+pub mod Below
+pub mod Modular
+pub mod Euclid
+pub mod PrimeFields
+pub mod Every
+pub mod Linear
+pub mod Products
+pub mod Tables
+pub mod Powers
+pub mod ByteLaws
