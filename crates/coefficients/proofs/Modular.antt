@@ -22,34 +22,18 @@ pub mod-once : (p n : ℕ) → p ≤ n → n - p < p → n % p ≡ n - p
 mod-once p n h l = mod-eq-sub-mod h ∙ mod-eq-of-lt l
 
 module _ (p a b : ℕ) (ha : a < p) (hb : b < p) where
-  pub sum-small : a + b < p → sum p a b ≡ a + b
-  sum-small h = mod-eq-of-lt h
-
-  pub sum-large : p ≤ a + b → sum p a b ≡ (a + b) - p
-  sum-large h = mod-once p (a + b) h (omega arith)
-
-  pub difference-small : a < b → difference p a b ≡ (a + p) - b
-  difference-small h = mod-eq-of-lt (omega arith)
-
-  pub difference-large : b ≤ a → difference p a b ≡ a - b
-  difference-large h =
-      let over : p ≤ (a + p) - b = omega arith in
-      let less : ((a + p) - b) - p < p = omega arith in
-      let same : ((a + p) - b) - p ≡ a - b = omega arith in
-      mod-once p ((a + p) - b) over less ∙ same
-
   difference-of-sum : difference p (sum p a b) b ≡ a
   difference-of-sum = ⊎-elim small large (cases-lt (a + b) p)
     where
       small : a + b < p → difference p (sum p a b) b ≡ a
       small h =
           let e : ((a + b) + p) - b ≡ a + p = omega arith in
-          ap (λ n. ((n + p) - b) % p) (sum-small h) ∙ ap (λ n. n % p) e ∙ add-mod-right a p ∙ mod-eq-of-lt ha
+          ap (λ n. ((n + p) - b) % p) (mod-eq-of-lt h) ∙ ap (λ n. n % p) e ∙ add-mod-right a p ∙ mod-eq-of-lt ha
 
       large : p ≤ a + b → difference p (sum p a b) b ≡ a
       large h =
           let e : (((a + b) - p) + p) - b ≡ a = omega arith in
-          ap (λ n. ((n + p) - b) % p) (sum-large h) ∙ ap (λ n. n % p) e ∙ mod-eq-of-lt ha
+          ap (λ n. ((n + p) - b) % p) (mod-once p (a + b) h (omega arith)) ∙ ap (λ n. n % p) e ∙ mod-eq-of-lt ha
 
   sum-of-difference : sum p (difference p a b) b ≡ a
   sum-of-difference =

@@ -1,7 +1,7 @@
 // The residues modulo a number.
 ghost use mathlib.Core.Path.{_≡_};
 ghost use mathlib.Core.Logic.{_↔_};
-ghost use Prim.Native.Nat.{_≤_};
+ghost use Prim.Native.Nat.{_*_, _%_, _<_, _≤_};
 ghost use Rattle.std.specs.Results.{Cases};
 ghost use Rattle.coefficients.specs.Arithmetic.{IsField};
 ghost use Rattle.coefficients.specs.Prime.{Prime};
@@ -32,6 +32,14 @@ impl Residues {
     }
 }
 
+// A number below twice the modulus, reduced.
+fn reduced(n: u64, modulus: u64) -> u64
+    requires { ⌜ n < 2 * modulus ⌝ }
+    ensures { λ r. ⌜ r ≡ n % modulus ⌝ }
+{
+    if n < modulus { n } else { n - modulus }
+}
+
 pub impl Coefficients for Residues as ResiduesCoefficients {
     const LARGEST: u64 = 2147483646;
 
@@ -57,12 +65,7 @@ pub impl Coefficients for Residues as ResiduesCoefficients {
 
     fn add(&self, a: u64, b: u64) -> u64 {
         if a < self.modulus && b < self.modulus {
-            let sum = a + b;
-            if sum < self.modulus {
-                sum
-            } else {
-                sum - self.modulus
-            }
+            reduced(a + b, self.modulus)
         } else {
             0
         }
@@ -70,7 +73,7 @@ pub impl Coefficients for Residues as ResiduesCoefficients {
 
     fn sub(&self, a: u64, b: u64) -> u64 {
         if a < self.modulus && b < self.modulus {
-            if b <= a { a - b } else { a + self.modulus - b }
+            reduced(a + self.modulus - b, self.modulus)
         } else {
             0
         }

@@ -1,0 +1,13 @@
+pub mod Ring
+pub mod Solver
+pub mod Divisors
+pub mod Series
+pub mod Bounded
+pub mod Value
+pub mod Polynomial
+pub mod Change
+pub mod Field
+pub mod Lead
+pub mod Lists
+pub mod OneUnknown
+pub mod TwoElements

@@ -1,0 +1,7 @@
+pub mod Terms
+pub mod Meaning
+pub mod Inverse
+pub mod Cutting
+pub mod Common
+pub mod Horner
+pub mod Images
