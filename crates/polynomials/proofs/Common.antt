@@ -130,13 +130,17 @@ pub euclid-end : (K : Arithmetic) (a₀ b₀ a b d : List ℕ) (r : Result ℕ R
 euclid-end K a₀ b₀ a b d (Ok n) u h =
     λ ha hb.
     let inside = u .inside ha hb in
-    let m = h (inside .0) in
-    (m .0, inside .1, m .1, λ lw.
-    let s = m .2 lw in
-    record {
-      greatest = shared-end (polynomials lw) _ _ (polynomial lw a) (polynomial lw b) _ (u .shares lw ha hb) (cleared lw b (λ i lt. u .sized .zeros i (omega arith) lt)) (s .associates .0) (s .associates .1);
-      normal = s .normal;
-    })
+    let m = h (inside .0) in (
+      m .0,
+      inside .1,
+      m .1,
+      λ lw.
+          let s = m .2 lw in
+          record {
+            greatest = shared-end (polynomials lw) _ _ (polynomial lw a) (polynomial lw b) _ (u .shares lw ha hb) (cleared lw b (λ i lt. u .sized .zeros i (omega arith) lt)) (s .associates .0) (s .associates .1);
+            normal = s .normal;
+          },
+    )
 euclid-end K a₀ b₀ a b d (Err e) u (kept, (n, pos, s, no-way)) =
     λ ha hb.
     let inside = u .inside ha hb in

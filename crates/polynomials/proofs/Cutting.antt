@@ -41,10 +41,10 @@ pub record Reducing (K : Arithmetic) (f g : List ℕ) (r : List ℕ) (t : ℕ) :
 
 module _ {E : Type 0} (P : Ring E) where
   open Ring P using (zero as 𝟘, add as _⊕_, neg as ⊖_, mul as _⊙_)
+
   infixl 60 _⊕_
   infixl 70 _⊙_
   infix 80 ⊖_
-
   -- moving a multiple of g from the rest to the quotient
   pub moved : (f q g r m : E) → f ≡ q ⊙ g ⊕ r → f ≡ (q ⊕ m) ⊙ g ⊕ (r ⊕ ⊖ (m ⊙ g))
   moved f q g r m e = e ∙ by-ring P (q ∷ g ∷ r ∷ m ∷ []) (search quoting depth 30) tt
@@ -109,6 +109,7 @@ module _ {K : Arithmetic} (laws : Laws K) (g : List ℕ) (n inv : ℕ) (gs : Siz
         set-in : (i : ℕ) → (i ≡ s) ⊎ (i ≢ s) → i < length q → K .element (getD (set q s c) i 0) ≡ true
         set-in i (inl e) l = rw e (ap (K .element) (getD-set-same q s c 0 lt) ∙ factor-in r r′ s c t st (d .within) len factor L)
         set-in i (inr ne) l = ap (K .element) (getD-set-other q s i c 0 ne) ∙ d .inside-q i l
+
         holds : (laws : Laws K) → Inside K f → Inside K g → polynomial laws f ≡ polynomials laws .add (polynomials laws .mul (polynomial laws (set q s c)) (polynomial laws g)) (polynomial laws r′)
         holds lw hf hg =
             let w = d .within in

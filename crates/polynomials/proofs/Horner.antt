@@ -41,6 +41,7 @@ module _ (K : Arithmetic) (l : List ℕ) (x : ℕ) where
     where
       on : (lw : Laws K) (k a b : ℕ) → a ≡ b → coefficients lw l a ≡ coefficients lw l b
       on lw k a b q = ap (coefficients lw l) q
+
       more : (lw : Laws K) → Inside K l → K .element x ≡ true → (n : ℕ) → i - 1 + n ≡ length l → value-of (elements lw) n (read lw x) (rest lw l (i - 1)) .0 ≡ w
       more lw hl hx zero p = let z = h .within in absurd (omega arith)
       more lw hl hx (suc n) p =

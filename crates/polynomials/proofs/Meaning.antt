@@ -23,6 +23,7 @@ module _ {K : Arithmetic} (laws : Laws K) where
   open Ring (elements laws) using (zero as 𝟘, one as 𝟙, add as _⊕_, neg as ⊖_, mul as _⊙_)
   open Ring (series (elements laws)) using (add as _⊞_, neg as ⊟_, mul as _⊠_)
   open Ring (polynomials laws) using (zero as O, add as _⊹_, neg as ⁻_, mul as _⋆_)
+
   infixl 60 _⊕_
   infixl 70 _⊙_
   infix 80 ⊖_
@@ -32,7 +33,6 @@ module _ {K : Arithmetic} (laws : Laws K) where
   infixl 60 _⊹_
   infixl 70 _⋆_
   infix 80 ⁻_
-
   pub of-polynomial : (l : List ℕ) → polynomial laws l .0 ≡ coefficients laws l
   unfolding polynomial
   of-polynomial l = make-is (elements laws) (element-discrete K) _ _ _
@@ -87,12 +87,14 @@ module _ {K : Arithmetic} (laws : Laws K) where
     where
       at : (k : ℕ) → polynomial laws l .0 k ≡ coefficients laws l k
       at k = ap (λ (f : Series (Element K)). f k) (of-polynomial l)
+
       past : (k : ℕ) → n ≤ k → coefficients laws l k ≡ 𝟘
       past k le = go (cases-lt k (length l))
         where
           go : (k < length l) ⊎ (length l ≤ k) → coefficients laws l k ≡ 𝟘
           go (inl lt) = zero-at l k (s .zeros k le lt)
           go (inr le) = past-end laws l k le
+
       tight : (n : ℕ) → Sized K l n → Tight (elements laws) (polynomial laws l .0) n
       tight zero s = tt
       tight (suc n) s = λ e.
@@ -107,8 +109,10 @@ module _ {K : Arithmetic} (laws : Laws K) where
       where
         m : Series (Element K)
         m = mono (elements laws) (c, ci) s ⊠ coefficients laws g
+
         nothing : m k ≡ 𝟘 → getD f′ k 0 ≡ getD f k 0 → coefficients laws f′ k ≡ coefficients laws f k ⊕ ⊖ m k
         nothing z e = same-at f′ f k len e ∙ rw z (simp ring)
+
         go : (k < s) ⊎ (s ≤ k) → (k < s + n) ⊎ (s + n ≤ k) → coefficients laws f′ k ≡ coefficients laws f k ⊕ ⊖ m k
         go (inl lt) y = nothing (mono-mul-under (elements laws) (c, ci) s (coefficients laws g) k lt) (L .below k lt)
         go (inr le) (inr over) =
@@ -145,15 +149,18 @@ module _ {K : Arithmetic} (laws : Laws K) where
     where
       m : Series (Element K)
       m = mono (elements laws) (c, ci) s
+
       beside : (k : ℕ) → k ≢ s → m k ≡ 𝟘
       beside k ne = go (cases-lt k s)
         where
           go : (k < s) ⊎ (s ≤ k) → m k ≡ 𝟘
           go (inl l) = mono-under (elements laws) (c, ci) s k l
           go (inr l) = mono-below (elements laws) (c, ci) s k (omega arith)
+
       by : (k : ℕ) → (k ≡ s) ⊎ (k ≢ s) → coefficients laws (set q s c) k ≡ coefficients laws q k ⊕ m k
       by k (inl e) = rw (e, mono-at (elements laws) (c, ci) s, zero-at q s z) (element-same K (ap (λ i. cond (K .element i) i (K .zero)) (getD-set-same q s c (K .zero) lt) ∙ cond-true _ _ _ ci) ∙ sym (zero-add (elements laws) (c, ci)))
       by k (inr ne) = same-at (set q s c) q k (length-set q s c) (getD-set-other q s k c 0 ne) ∙ rw (beside k ne) (sym (add-zero (elements laws) _))
+
       at : (k : ℕ) → coefficients laws (set q s c) k ≡ (coefficients laws q ⊞ m) k
       at k = by k (cases-eq k s) ∙ sym (at-add _ _ _ k)
 

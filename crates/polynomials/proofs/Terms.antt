@@ -11,10 +11,10 @@ use Rattle.algebra.specs.Polynomial.{Poly, make, make-is}
 module _ {E : Type 0} (R : Ring E) where
   open Ring R using (zero as 𝟘, add as _⊕_, mul as _⊙_)
   open Ring (series R) using (mul as _⊠_)
+
   infixl 60 _⊕_
   infixl 70 _⊙_
   infixl 70 _⊠_
-
   unfoldable pub mono : E → ℕ → Series E
   mono c zero = const R c
   mono c (suc s) = cons 𝟘 (mono c s)

@@ -9,8 +9,16 @@ use Rattle.std.specs.declared.result.Result.the-variants.{Ok, Err}
 use Rattle.coefficients.specs.Arithmetic.{Arithmetic, Laws, IsField}
 use Rattle.coefficients.specs.declared.kind.ReciprocalFault.{ReciprocalFault}
 use Rattle.coefficients.specs.declared.kind.ReciprocalFault.the-variants.{NoReciprocal}
-use Rattle.polynomials.specs.Rows.{Inside, Sized, row-of}
+use Rattle.polynomials.specs.declared.faults.RowFault.{RowFault}
+use Rattle.polynomials.specs.declared.faults.RowFault.the-variants.{Length, Foreign, Reciprocal}
+use Rattle.polynomials.specs.Rows.{Inside, FirstForeign, Sized}
 use Rattle.polynomials.specs.Relations.{Value, Image, Quotient, Remainder, NormalOf, MonicGcd}
+
+-- `check_codes`: the fault names the first foreign code of the row
+abbrev pub Foreign-row : Arithmetic → List ℕ → (row : ℕ) → RowFault → Type 0
+Foreign-row K l row (Foreign n place code) = (n ≡ row) × FirstForeign K l place code
+Foreign-row K l row (Length n length) = ⊥
+Foreign-row K l row (Reciprocal e) = ⊥
 
 -- `horner`: v is the value of the row l at x
 abbrev pub Valued : Arithmetic → (l : List ℕ) (x v : ℕ) → Type 0

@@ -18,14 +18,25 @@ pub fn evaluate<K: Coefficients>(kind: &K, row: &[u64], point: u64) -> Result<u6
 }
 
 // Sets y to `point` in a table of 256 codes, and writes the coefficients in x into the 16 codes of `row`.
-pub fn image<K: Coefficients>(kind: &K, table: &[u64], point: u64, row: &mut [u64]) -> Result<(), RowFault>
+pub fn image<K: Coefficients>(
+    kind: &K,
+    table: &[u64],
+    point: u64,
+    row: &mut [u64],
+) -> Result<(), RowFault>
     ensures { λ r. ⌜ Imaging (arithmetic (now (kind .entry))) (now (table .entry)) point (now (row .entry)) (now (row .exit)) r ⌝ }
 {
     if table.len() != 256 {
-        return Err(RowFault::Length { row: 1, length: table.len() });
+        return Err(RowFault::Length {
+            row: 1,
+            length: table.len(),
+        });
     }
     if row.len() != 16 {
-        return Err(RowFault::Length { row: 3, length: row.len() });
+        return Err(RowFault::Length {
+            row: 3,
+            length: row.len(),
+        });
     }
     check_codes(kind, table, 1)?;
     check_codes(kind, &[point], 2)?;

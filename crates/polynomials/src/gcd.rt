@@ -9,7 +9,6 @@ use crate::divide::reduce_row;
 use crate::faults::RowFault;
 use crate::faults::RowFaultFrom;
 use crate::rows::check_codes;
-use crate::rows::exchange;
 use crate::rows::scale;
 use crate::rows::size;
 use coefficients::kind::Coefficients;
@@ -20,7 +19,10 @@ pub fn gcd<K: Coefficients>(kind: &K, a: &mut [u64], b: &mut [u64]) -> Result<us
     ensures { λ r. ⌜ Sharing (arithmetic (now (kind .entry))) (now (a .entry)) (now (b .entry)) (now (a .exit)) (now (b .exit)) r ⌝ }
 {
     if a.len() != b.len() {
-        return Err(RowFault::Length { row: 2, length: b.len() });
+        return Err(RowFault::Length {
+            row: 2,
+            length: b.len(),
+        });
     }
     check_codes(kind, a, 1)?;
     check_codes(kind, b, 2)?;
@@ -42,14 +44,18 @@ pub fn make_monic<K: Coefficients>(kind: &K, row: &mut [u64]) -> Result<usize, R
 }
 
 // Takes remainders until nothing is left, and makes the last divisor monic.
-pub fn gcd_row<K: Coefficients>(kind: &K, a: &mut [u64], b: &mut [u64]) -> Result<usize, ReciprocalFault>
+pub fn gcd_row<K: Coefficients>(
+    kind: &K,
+    a: &mut [u64],
+    b: &mut [u64],
+) -> Result<usize, ReciprocalFault>
     requires { ⌜ length (now a) ≡ length (now b) ⌝ }
     ensures { λ r. ⌜ Common (arithmetic (now (kind .entry))) (now (a .entry)) (now (b .entry)) (now (a .exit)) (now (b .exit)) r ⌝ }
 {
     let mut n = size(kind, b);
     while n > 0 {
         reduce_row(kind, a, b)?;
-        exchange(a, b);
+        a.swap_with_slice(b);
         n = size(kind, b);
     }
     make_monic(kind, a)

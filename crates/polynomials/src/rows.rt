@@ -3,19 +3,22 @@ ghost use mathlib.Core.Path.{_≡_};
 ghost use Prim.Native.Nat.{ℕ, _+_, _<_, _≤_};
 ghost use lib.ListN.{length, getD};
 ghost use Rattle.std.specs.Results.{Cases};
-ghost use Rattle.polynomials.specs.declared.faults.RowFault.the-variants.{Foreign};
-ghost use Rattle.polynomials.specs.Rows.{Inside, FirstForeign, Sized};
-ghost use Rattle.polynomials.specs.Steps.{Lessened};
+ghost use Rattle.polynomials.specs.Rows.{Inside, Sized};
+ghost use Rattle.polynomials.specs.Steps.{Foreign-row, Lessened};
 use crate::faults::RowFault;
 use coefficients::kind::Coefficients;
 
 // Whether every code of a row is an element: the first that is not is refused, under the row's number.
 pub fn check_codes<K: Coefficients>(kind: &K, codes: &[u64], row: u64) -> Result<(), RowFault>
-    ensures { λ r. ⌜ Cases r (λ _. Inside (arithmetic (now (kind .entry))) (now (codes .entry))) (λ e. (place : ℕ) × (code : ℕ) × (e ≡ Foreign row place code) × FirstForeign (arithmetic (now (kind .entry))) (now (codes .entry)) place code) ⌝ }
+    ensures { λ r. ⌜ Cases r (λ _. Inside (arithmetic (now (kind .entry))) (now (codes .entry))) (λ e. Foreign-row (arithmetic (now (kind .entry))) (now (codes .entry)) row e) ⌝ }
 {
     for (place, code) in codes.iter().enumerate() {
         if !kind.contains(*code) {
-            return Err(RowFault::Foreign { row, place, code: *code });
+            return Err(RowFault::Foreign {
+                row,
+                place,
+                code: *code,
+            });
         }
     }
     Ok(())
@@ -44,7 +47,14 @@ pub fn clear<K: Coefficients>(kind: &K, row: &mut [u64])
 }
 
 // Takes `by` times the first `count` codes of `row`, moved up by `shift`, from `acc`.
-pub fn lessen<K: Coefficients>(kind: &K, acc: &mut [u64], shift: usize, by: u64, row: &[u64], count: usize)
+pub fn lessen<K: Coefficients>(
+    kind: &K,
+    acc: &mut [u64],
+    shift: usize,
+    by: u64,
+    row: &[u64],
+    count: usize,
+)
     requires { ⌜ shift + count ≤ length (now acc) ⌝ ∗ ⌜ count ≤ length (now row) ⌝ }
     ensures { λ _. ⌜ Lessened (arithmetic (now (kind .entry))) (now (acc .entry)) (now (acc .exit)) shift by (now (row .entry)) count ⌝ }
 {
@@ -59,18 +69,5 @@ pub fn scale<K: Coefficients>(kind: &K, row: &mut [u64], by: u64)
 {
     for i in 0..row.len() {
         row[i] = kind.mul(by, row[i]);
-    }
-}
-
-// Exchanges what two rows hold.
-pub fn exchange(a: &mut [u64], b: &mut [u64])
-    requires { ⌜ length (now a) ≡ length (now b) ⌝ }
-    ensures left { λ _. ⌜ now (a .exit) ≡ now (b .entry) ⌝ }
-    ensures right { λ _. ⌜ now (b .exit) ≡ now (a .entry) ⌝ }
-{
-    for i in 0..a.len() {
-        let held = a[i];
-        a[i] = b[i];
-        b[i] = held;
     }
 }

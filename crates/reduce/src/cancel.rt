@@ -26,7 +26,11 @@ pub struct Cancelled {
 }
 
 // The other factor of a multiple of `by`. A division that does not come out even is refused, as if zero were to have a reciprocal.
-fn cofactor<K: Coefficients>(kind: &K, row: &[u64; 16], by: &[u64; 16]) -> Result<[u64; 16], RowFault>
+fn cofactor<K: Coefficients>(
+    kind: &K,
+    row: &[u64; 16],
+    by: &[u64; 16],
+) -> Result<[u64; 16], RowFault>
     ensures { λ r. ⌜ made r (λ q. (laws : Laws (arithmetic (now (kind .entry)))) → polynomial laws (now (row .entry)) ≡ polynomials laws .mul (polynomial laws q) (polynomial laws (now (by .entry)))) ⌝ }
 {
     let mut rest = *row;
@@ -39,7 +43,12 @@ fn cofactor<K: Coefficients>(kind: &K, row: &[u64; 16], by: &[u64; 16]) -> Resul
 }
 
 // Sets y to `point` in both tables, and cancels the monic greatest common divisor of the images.
-pub fn cancel<K: Coefficients>(kind: &K, a: &[u64], b: &[u64], point: u64) -> Result<Cancelled, RowFault>
+pub fn cancel<K: Coefficients>(
+    kind: &K,
+    a: &[u64],
+    b: &[u64],
+    point: u64,
+) -> Result<Cancelled, RowFault>
     ensures { λ r. ⌜ made r (λ c. Cancels (arithmetic (now (kind .entry))) (now (a .entry)) (now (b .entry)) point c) ⌝ }
 {
     let mut left = [0; 16];
@@ -51,5 +60,11 @@ pub fn cancel<K: Coefficients>(kind: &K, a: &[u64], b: &[u64], point: u64) -> Re
     gcd(kind, &mut shared, &mut used)?;
     let left_over = cofactor(kind, &left, &shared)?;
     let right_over = cofactor(kind, &right, &shared)?;
-    Ok(Cancelled { left, right, shared, left_over, right_over })
+    Ok(Cancelled {
+        left,
+        right,
+        shared,
+        left_over,
+        right_over,
+    })
 }

@@ -25,7 +25,11 @@ pub impl fmt::Display for Code as CodeDisplay {
 }
 
 // A power of an unknown; nothing where it is the zeroth.
-fn write_power<W: fmt::Write>(f: &mut fmt::Formatter<W>, unknown: char, power: usize) -> fmt::Result {
+fn write_power<W: fmt::Write>(
+    f: &mut fmt::Formatter<W>,
+    unknown: char,
+    power: usize,
+) -> fmt::Result {
     match power {
         0 => Ok(()),
         1 => write!(f, "{unknown}"),
@@ -34,6 +38,7 @@ fn write_power<W: fmt::Write>(f: &mut fmt::Formatter<W>, unknown: char, power: u
 }
 
 // A polynomial in one unknown, from the highest power down.
+#[derive(Clone, Copy)]
 pub struct Row<'a> {
     pub codes: &'a [u64],
     pub unknown: char,
@@ -51,7 +56,10 @@ pub impl fmt::Display for Row<'_> as RowDisplay {
                 }
                 empty = false;
                 if code != 1 || power == 0 {
-                    let shown = Code { code, notation: self.notation };
+                    let shown = Code {
+                        code,
+                        notation: self.notation,
+                    };
                     write!(f, "{shown}")?;
                 }
                 write_power(f, self.unknown, power)?;
@@ -76,14 +84,24 @@ fn terms(codes: &[u64]) -> usize {
 }
 
 // A polynomial in x and y, by its powers of x.
+#[derive(Clone, Copy)]
 pub struct Table<'a> {
     pub codes: &'a [u64; 256],
     pub notation: Notation,
 }
 
 // The coefficient of a power of x: in parentheses where it has several terms, and left out where it is one.
-fn write_coefficient<W: fmt::Write>(f: &mut fmt::Formatter<W>, row: &[u64], power: usize, notation: Notation) -> fmt::Result {
-    let inner = Row { codes: row, unknown: 'y', notation };
+fn write_coefficient<W: fmt::Write>(
+    f: &mut fmt::Formatter<W>,
+    row: &[u64],
+    power: usize,
+    notation: Notation,
+) -> fmt::Result {
+    let inner = Row {
+        codes: row,
+        unknown: 'y',
+        notation,
+    };
     if power == 0 {
         return write!(f, "{inner}");
     }
@@ -98,9 +116,11 @@ fn write_coefficient<W: fmt::Write>(f: &mut fmt::Formatter<W>, row: &[u64], powe
 
 pub impl fmt::Display for Table<'_> as TableDisplay {
     fn fmt<W: fmt::Write>(&self, f: &mut fmt::Formatter<W>) -> fmt::Result {
+        let table = self.codes;
+        let codes = &table[..];
         let mut empty = true;
         for power in (0..16usize).rev() {
-            let row = &self.codes[16 * power..16 * power + 16];
+            let row = &codes[16 * power..16 * power + 16];
             if terms(row) > 0 {
                 if !empty {
                     write!(f, " + ")?;

@@ -22,7 +22,8 @@ loop-top-again g c =
 pub returns : need.returns
 returns g c =
     let K = g .K·Coefficients .arithmetic (c .args .kind .now) in
-    let by = c .args .by .now in
-    ( reduced (g .K·Coefficients·met .laws (c .args .kind .now)) by (c .size-count .result) (c .in-Continue-inverse .inverse) (c .size-count .ensures) (c .in-Continue-inverse .ensures tt)
-        (c .args .rest .now) (c .loop-top .rest) (c .loop-top .top) (omega arith) (c .loop-top .inv)
-    , λ n i s le lt. let e = sized-once K by n (c .size-count .result) s (c .size-count .ensures) in c .loop-top .inv .zeros i (omega arith) lt)
+    let by = c .args .by .now in (
+      reduced (g .K·Coefficients·met .laws (c .args .kind .now)) by (c .size-count .result) (c .in-Continue-inverse .inverse) (c .size-count .ensures) (c .in-Continue-inverse .ensures tt)
+          (c .args .rest .now) (c .loop-top .rest) (c .loop-top .top) (omega arith) (c .loop-top .inv),
+      λ n i s le lt. let e = sized-once K by n (c .size-count .result) s (c .size-count .ensures) in c .loop-top .inv .zeros i (omega arith) lt,
+    )

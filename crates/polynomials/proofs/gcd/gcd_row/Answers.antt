@@ -21,10 +21,10 @@ returns-in-Break-reduce-row g c =
 pub loop-n-again : need.loop-n-again
 loop-n-again g c =
     let K = g .K·Coefficients .arithmetic (c .args .kind .now) in
-    let s = subst (λ (l : List ℕ). Sized K l (c .size-n-in-loop-n .result)) (c .exchange .ensures .right) (c .size-n-in-loop-n .ensures) in
-    rw (c .exchange .ensures .left, c .exchange .ensures .right)
+    let s = subst (λ (l : List ℕ). Sized K l (c .size-n-in-loop-n .result)) (c .swap-with-slice .ensures .other-after) (c .size-n-in-loop-n .ensures) in
+    rw (c .swap-with-slice .ensures .after, c .swap-with-slice .ensures .other-after)
     (euclid-more K (c .args .a .now) (c .args .b .now) (c .loop-n .a) (c .loop-n .b) (c .reduce-row .last .rest) (c .loop-n .n) (c .size-n-in-loop-n .result)
-      (omega arith) (c .loop-n .inv) (c .in-Continue-reduce-row .ensures tt .0) s)
+    (omega arith) (c .loop-n .inv) (c .in-Continue-reduce-row .ensures tt .0) s)
 
 pub returns : need.returns
 returns g c =

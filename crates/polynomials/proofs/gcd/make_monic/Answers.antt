@@ -24,7 +24,8 @@ returns g c h =
     let n = c .size-n .result in
     let i = c .in-Continue-inverse .inverse in
     let iv = c .in-Continue-inverse .ensures tt in
-    let len : length (c .scale .last .row) ≡ length row = omega arith in
-    ( scaled-inside lw row (c .scale .last .row) n i h (c .size-n .ensures) iv len (c .scale .ensures)
-    , scaled-sized lw row (c .scale .last .row) n i h (c .size-n .ensures) iv len (c .scale .ensures)
-    , scaled-normal lw row (c .scale .last .row) n i h (c .size-n .ensures) iv len (c .scale .ensures))
+    let len : length (c .scale .last .row) ≡ length row = omega arith in (
+      scaled-inside lw row (c .scale .last .row) n i h (c .size-n .ensures) iv len (c .scale .ensures),
+      scaled-sized lw row (c .scale .last .row) n i h (c .size-n .ensures) iv len (c .scale .ensures),
+      scaled-normal lw row (c .scale .last .row) n i h (c .size-n .ensures) iv len (c .scale .ensures),
+    )
