@@ -12,7 +12,7 @@ use Rattle.std.proofs.shelf.Tests.{cases-lt}
 use Rattle.coefficients.specs.Arithmetic.{Arithmetic, Laws}
 use Rattle.algebra.specs.Polynomial.{poly-discrete, make-is, same, at, evaluate}
 use Rattle.algebra.specs.Change.{image, of-change}
-use Rattle.polynomials.specs.Elements.{Element, element-same, element-discrete, elements, read, coefficients, past-end, polynomial, polynomials, empty-row, coefficients-x, table}
+use Rattle.polynomials.specs.Elements.{Element, element-same, element-discrete, elements, read, coefficients, past-end, polynomial, polynomials, empty-row, polynomial-xy, table}
 use Rattle.polynomials.specs.Rows.{Inside, row-of}
 use Rattle.polynomials.specs.Relations.{Value, Image}
 use Rattle.polynomials.specs.Steps.{Valued, Imaged}
@@ -37,7 +37,7 @@ module _ {K : Arithmetic} (laws : Laws K) (t : List ℕ) (α : ℕ) (l : List �
       ∙ sym (past-end laws l k (omega arith))
 
   pub image-is : Image laws t α l
-  unfolding image evaluate table
+  unfolding image evaluate polynomial-xy
   image-is =
       same (elements laws) (element-discrete K)
       (of-change (polynomials laws) (elements laws) (evaluate (elements laws) (element-discrete K) (read laws α)) (poly-discrete (elements laws) (element-discrete K)) (element-discrete K) (table laws t)

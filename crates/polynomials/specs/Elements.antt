@@ -3,8 +3,9 @@ use mathlib.Core.Path.{_≡_, refl, sym, ap, fun-ext, _∙_}
 use mathlib.Core.Bool.{Bool, true, false, cond, Bool-set}
 use mathlib.Core.List.{List, []}
 use mathlib.Core.HLevel.{Discrete, Σ-prop-path, Σ-prop-discrete}
-use Prim.Native.Nat.{ℕ, _*_, _≤_, _<_, zero-le}
+use Prim.Native.Nat.{ℕ, zero, suc, _+_, _*_, _≤_, _<_, zero-le}
 use native.Mathlib.Decide.{ℕ-discrete}
+use native.Mathlib.Nat.{suc-mul}
 use native.Mathlib.Omega.{arith}
 use lib.ListN.{length, getD, take, drop}
 use Rattle.std.proofs.shelf.Lists.{getD-past, drop-all}
@@ -14,7 +15,7 @@ use Rattle.algebra.specs.Series.{Series, at-zero}
 use Rattle.algebra.specs.Polynomial.{Poly, poly, poly-discrete, make, same, make-is, of-zero}
 use Rattle.algebra.specs.Change.{Poly₂}
 use Rattle.algebra.specs.Field.{Field}
-use Rattle.polynomials.specs.Rows.{row-of}
+use Rattle.polynomials.specs.Rows.{cut-row}
 
 -- a code with the fact that it is an element
 abbrev pub Element : Arithmetic → Type 0
@@ -90,17 +91,24 @@ module _ {K : Arithmetic} (laws : Laws K) where
   abbrev pub polynomials : Ring (Poly elements)
   polynomials = poly elements (element-discrete K)
 
-  -- the coefficients that a table means, as a polynomial in x over those in y
-  abbrev pub coefficients-x : List ℕ → Series (Poly elements)
-  coefficients-x t i = polynomial (row-of t i)
+  -- the coefficients that rows of `width` codes mean, as a polynomial in x over those in y
+  abbrev pub coefficients-x : (width : ℕ) → List ℕ → Series (Poly elements)
+  coefficients-x width t i = polynomial (cut-row width t i)
 
   pub empty-row : polynomial [] ≡ polynomials .zero
   unfolding polynomial
   empty-row = same elements (element-discrete K) (make-is elements (element-discrete K) _ _ _ ∙ fun-ext (λ k. past-end [] k zero-le ∙ sym (at-zero elements k)) ∙ sym (of-zero elements (element-discrete K)))
 
-  pub past-table : (t : List ℕ) (i : ℕ) → length t ≤ i → coefficients-x t i ≡ polynomials .zero
-  past-table t i le = let gone : length t ≤ 16 * i = omega arith in ap (λ l. polynomial (take 16 l)) (drop-all (16 * i) t gone) ∙ empty-row
+  pub past-rows : (width : ℕ) (t : List ℕ) (i : ℕ) → length t ≤ i → coefficients-x width t i ≡ polynomials .zero
+  past-rows zero t i le = empty-row
+  past-rows (suc w) t i le =
+      let once : suc w * i ≡ w * i + i = suc-mul w i in
+      ap (λ l. polynomial (take (suc w) l)) (drop-all (suc w * i) t (omega arith)) ∙ empty-row
 
-  -- the polynomial in x and y that a table means: the coefficient of x^i is what its i-th row means in y
-  unfoldable pub table : List ℕ → Poly₂ elements (element-discrete K)
-  table t = make polynomials (poly-discrete elements (element-discrete K)) (length t) (coefficients-x t) (past-table t)
+  -- the polynomial in x and y that rows of `width` codes mean: the coefficient of x^i is what the i-th row means in y
+  unfoldable pub polynomial-xy : (width : ℕ) → List ℕ → Poly₂ elements (element-discrete K)
+  polynomial-xy width t = make polynomials (poly-discrete elements (element-discrete K)) (length t) (coefficients-x width t) (past-rows width t)
+
+  -- .. and a table
+  abbrev pub table : List ℕ → Poly₂ elements (element-discrete K)
+  table t = polynomial-xy 16 t

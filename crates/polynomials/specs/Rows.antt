@@ -29,6 +29,10 @@ pub record Sized (K : Arithmetic) (l : List ℕ) (n : ℕ) : Type 0 where
   pub zeros : (i : ℕ) → n ≤ i → i < length l → getD l i 0 ≡ K .zero
   pub lead : 0 < n → getD l (n - 1) 0 ≡ K .zero → ⊥
 
--- the i-th row of a table, the coefficients of x^i
+-- the i-th of rows of `width` codes that stand one after the other
+abbrev pub cut-row : (width : ℕ) → List ℕ → ℕ → List ℕ
+cut-row width t i = take width (drop (width * i) t)
+
+-- the i-th row of a table, the coefficient of x^i
 abbrev pub row-of : List ℕ → ℕ → List ℕ
-row-of t i = take 16 (drop (16 * i) t)
+row-of = cut-row 16
