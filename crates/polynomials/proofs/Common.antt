@@ -134,12 +134,13 @@ euclid-end K a₀ b₀ a b d (Ok n) u h =
       m .0,
       inside .1,
       m .1,
-      λ lw.
+      (λ lw.
           let s = m .2 lw in
           record {
             greatest = shared-end (polynomials lw) _ _ (polynomial lw a) (polynomial lw b) _ (u .shares lw ha hb) (cleared lw b (λ i lt. u .sized .zeros i (omega arith) lt)) (s .associates .0) (s .associates .1);
             normal = s .normal;
-          },
+          }),
+      u .sized,
     )
 euclid-end K a₀ b₀ a b d (Err e) u (kept, (n, pos, s, no-way)) =
     λ ha hb.

@@ -36,9 +36,9 @@ Dividing K f g held r q (Err (Length row n)) = (r ≡ f) × (q ≡ held) × (row
 Dividing K f g held r q (Err (Foreign row place code)) = (r ≡ f) × (q ≡ held) × (length f ≤ length held) × Foreign-in K (f ∷ g ∷ []) 1 row place code
 Dividing K f g held r q (Err (Reciprocal e)) = (r ≡ f) × (q ≡ held) × (length f ≤ length held) × Inside K f × Inside K g × ((c : ℕ) × (e ≡ NoReciprocal c) × NoInverse K g c)
 
--- `gcd`: of a and b, with d left of a and e of b; the answer is the size of d. Only a kind that is no field wants a reciprocal
+-- `gcd`: of a and b, with d left of a and zeros of b; the answer is the size of d. Only a kind that is no field wants a reciprocal
 abbrev pub Sharing : Arithmetic → (a b d e : List ℕ) → Result ℕ RowFault → Type 0
-Sharing K a b d e (Ok n) = (length a ≡ length b) × Inside K a × Inside K b × Inside K d × Inside K e × Sized K d n × ((laws : Laws K) → MonicGcd laws a b d)
+Sharing K a b d e (Ok n) = (length a ≡ length b) × Inside K a × Inside K b × Inside K d × Inside K e × Sized K d n × ((laws : Laws K) → MonicGcd laws a b d) × Sized K e 0
 Sharing K a b d e (Err (Length row n)) = (d ≡ a) × (e ≡ b) × (row ≡ 2) × (n ≡ length b) × (length a ≡ length b → ⊥)
 Sharing K a b d e (Err (Foreign row place code)) = (d ≡ a) × (e ≡ b) × (length a ≡ length b) × Foreign-in K (a ∷ b ∷ []) 1 row place code
 Sharing K a b d e (Err (Reciprocal f)) = (length a ≡ length b) × Inside K a × Inside K b × Inside K d × Inside K e × ((c : ℕ) × (f ≡ NoReciprocal c) × Stuck K c)

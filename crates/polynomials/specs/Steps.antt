@@ -80,7 +80,7 @@ pub record Stuck (K : Arithmetic) (c : ℕ) : Type 0 where
   pub none : (r : ℕ) → K .product c r ≡ K .one → ⊥
   pub no-field : IsField K → ⊥
 
--- `gcd_row`: d is left of a, and e of b; the answer is the size of d
+-- `gcd_row`: d is left of a, and zeros of b; the answer is the size of d
 abbrev pub Common : Arithmetic → (a b d e : List ℕ) → Result ℕ ReciprocalFault → Type 0
-Common K a b d e (Ok n) = Inside K a → Inside K b → Inside K d × Inside K e × Sized K d n × ((laws : Laws K) → MonicGcd laws a b d)
+Common K a b d e (Ok n) = Inside K a → Inside K b → Inside K d × Inside K e × Sized K d n × ((laws : Laws K) → MonicGcd laws a b d) × Sized K e 0
 Common K a b d e (Err f) = Inside K a → Inside K b → Inside K d × Inside K e × ((c : ℕ) × (f ≡ NoReciprocal c) × Stuck K c)

@@ -14,7 +14,7 @@ use crate::rows::size;
 use coefficients::kind::Coefficients;
 use coefficients::kind::ReciprocalFault;
 
-// Leaves the monic greatest common divisor of two rows of one length in `a`, and answers its size. `b` is used up.
+// Leaves the monic greatest common divisor of two rows of one length in `a`, and answers its size. `b` is left zero.
 pub fn gcd<K: Coefficients>(kind: &K, a: &mut [u64], b: &mut [u64]) -> Result<usize, RowFault>
     ensures { λ r. ⌜ Sharing (arithmetic (now (kind .entry))) (now (a .entry)) (now (b .entry)) (now (a .exit)) (now (b .exit)) r ⌝ }
 {
