@@ -1,7 +1,7 @@
 pub mod Arithmetic
 pub mod Reciprocal
 pub mod Listing
-pub mod Numbers
+pub mod Refusals
 pub mod Below
 pub mod Residue
 pub mod Prime

@@ -4,7 +4,9 @@ ghost use mathlib.Core.Bool.{true};
 ghost use Prim.Native.Nat.{ℕ, _≤_};
 ghost use Rattle.coefficients.specs.Arithmetic.{Arithmetic, Laws};
 ghost use Rattle.coefficients.specs.Reciprocal.{Reciprocal};
-ghost use Rattle.coefficients.specs.Numbers.{reciprocal-number};
+ghost use Rattle.coefficients.specs.Refusals.{reciprocal-refusal};
+use rules::refusal::Refusal;
+use rules::refusal::Stage;
 
 // Why a code has no reciprocal: it is no element, or an element that lacks one.
 #[derive(Clone, Copy)]
@@ -14,13 +16,16 @@ pub enum ReciprocalFault {
 }
 
 impl ReciprocalFault {
-    // The number under which the rules list this refusal.
-    pub fn number(&self) -> u64
-        ensures { λ r. ⌜ r ≡ reciprocal-number (now (self .entry)) ⌝ }
+    // The refusal that a call for a reciprocal by itself answers.
+    pub fn refusal(&self) -> Refusal
+        ensures { λ r. ⌜ r ≡ reciprocal-refusal (now (self .entry)) ⌝ }
     {
         match self {
-            ReciprocalFault::Foreign(_) => 2,
-            ReciprocalFault::NoReciprocal(_) => 5,
+            ReciprocalFault::Foreign(code) => Refusal::ForeignPoint { point: *code },
+            ReciprocalFault::NoReciprocal(code) => Refusal::NoField {
+                element: *code,
+                stage: Stage::Alone,
+            },
         }
     }
 }

@@ -1,6 +1,7 @@
 // Why no residues are made.
 ghost use mathlib.Core.Path.{_≡_};
-ghost use Rattle.coefficients.specs.Numbers.{modulus-number};
+ghost use Rattle.coefficients.specs.Refusals.{modulus-refusal};
+use rules::refusal::Refusal;
 
 #[derive(Clone, Copy)]
 pub enum ModulusFault {
@@ -9,12 +10,12 @@ pub enum ModulusFault {
 }
 
 impl ModulusFault {
-    // The number under which the rules list this refusal.
-    pub fn number(&self) -> u64
-        ensures { λ r. ⌜ r ≡ modulus-number (now (self .entry)) ⌝ }
+    // The refusal of the rules that this is.
+    pub fn refusal(&self) -> Refusal
+        ensures { λ r. ⌜ r ≡ modulus-refusal (now (self .entry)) ⌝ }
     {
         match self {
-            ModulusFault::OutOfRange(_) => 4,
+            ModulusFault::OutOfRange(modulus) => Refusal::Modulus { modulus: *modulus },
         }
     }
 }

@@ -22,7 +22,7 @@ fn bytes_add_and_multiply_as_published() -> Result<(), Fail> {
 fn answer(r: Result<u64, ReciprocalFault>) -> (u64, u64) {
     match r {
         Ok(v) => (v, 0),
-        Err(e) => (0, e.number()),
+        Err(e) => (0, e.refusal().number()),
     }
 }
 
@@ -47,7 +47,7 @@ fn reciprocals_are_given_or_refused() -> Result<(), Fail> {
 fn refusal(modulus: u64) -> u64 {
     match Residues::new(modulus) {
         Ok(_) => 0,
-        Err(e) => e.number(),
+        Err(e) => e.refusal().number(),
     }
 }
 

@@ -1,10 +1,11 @@
 -- The numbers under which the rules list the refusals of a call on rows.
 use Prim.Native.Nat.{ℕ}
-use Rattle.coefficients.specs.Numbers.{reciprocal-number}
+use Rattle.coefficients.specs.Refusals.{reciprocal-refusal}
+use Rattle.rules.specs.Numbers.{number, length-number, foreign-number}
 use Rattle.polynomials.specs.declared.faults.RowFault.{RowFault}
 use Rattle.polynomials.specs.declared.faults.RowFault.the-variants.{Length, Foreign, Reciprocal}
 
 abbrev pub row-number : RowFault → ℕ
-row-number (Length row length) = 1
-row-number (Foreign row place code) = 2
-row-number (Reciprocal e) = reciprocal-number e
+row-number (Length row length) = length-number
+row-number (Foreign row place code) = foreign-number
+row-number (Reciprocal e) = number (reciprocal-refusal e)

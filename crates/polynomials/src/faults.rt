@@ -23,7 +23,7 @@ impl RowFault {
         match self {
             RowFault::Length { .. } => 1,
             RowFault::Foreign { .. } => 2,
-            RowFault::Reciprocal(e) => e.number(),
+            RowFault::Reciprocal(e) => e.refusal().number(),
         }
     }
 }

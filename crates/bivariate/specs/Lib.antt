@@ -1,0 +1,3 @@
+pub mod Primitive
+pub mod Degrees
+pub mod TwoUnknowns
