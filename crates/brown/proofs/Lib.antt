@@ -1,0 +1,12 @@
+pub mod Lists
+pub mod Sizes
+pub mod Evaluation
+pub mod Interpolation
+pub mod Preparation
+pub mod Images
+pub mod Joining
+pub mod Test
+pub mod Linear
+pub mod Box
+pub mod Unlucky
+pub mod Bound
