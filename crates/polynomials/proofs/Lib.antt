@@ -5,3 +5,4 @@ pub mod Cutting
 pub mod Common
 pub mod Horner
 pub mod Images
+pub mod Products

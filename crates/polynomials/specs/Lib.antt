@@ -4,3 +4,4 @@ pub mod Relations
 pub mod Numbers
 pub mod Steps
 pub mod Calls
+pub mod Product

@@ -6,6 +6,7 @@ pub mod divide;
 pub mod evaluate;
 pub mod faults;
 pub mod gcd;
+pub mod product;
 pub mod rows;
 #[cfg(test)]
 mod tests;
