@@ -1,0 +1,7 @@
+pub mod Codes
+pub mod Right
+pub mod Answers
+pub mod Alike
+pub mod Determined
+pub mod Collect
+pub mod Method

@@ -1,0 +1,9 @@
+pub mod Sizes
+pub mod Contents
+pub mod Evenly
+pub mod Parting
+pub mod CutRows
+pub mod Points
+pub mod Growing
+pub mod Correcting
+pub mod Newton

@@ -1,0 +1,3 @@
+pub mod Degrees
+pub mod Content
+pub mod Join
