@@ -1,6 +1,4 @@
 // Two pairs of tables: place 16 i + j holds the coefficient of x^i y^j.
-ghost use mathlib.Core.Path.{_≡_};
-ghost use lib.ListN.{set, replicate};
 
 #[derive(Clone, Copy)]
 pub struct Pair {

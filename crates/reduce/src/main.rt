@@ -1,22 +1,32 @@
-// Sets y to a point in two tables, cancels what the images share, and prints what it did.
-mod cancel;
+// Prepares a pair of tables, sets y to points from a pile, and prints what the images share and what is left of them.
 mod examples;
 mod text;
 
-use cancel::Cancelled;
-use cancel::cancel;
 use coefficients::bytes::Bytes;
 use coefficients::bytes::BytesCoefficients;
+use coefficients::bytes::BytesListed;
 use coefficients::kind::Coefficients;
 use coefficients::kind::ReciprocalFault;
+use coefficients::listed::Listed;
 use coefficients::residues::Residues;
 use coefficients::residues::ResiduesCoefficients;
+use coefficients::residues::ResiduesListed;
 use examples::Pair;
 use examples::byte_pair;
 use examples::residue_pair;
+use points::chain::ChainSource;
+use points::counting::CountingSource;
+use points::pile::standard_pile;
+use points::shift::ShiftSource;
+use points::source::Source;
+use points::supplied::SuppliedSource;
+use polynomials::divide::divide;
+use polynomials::evaluate::image;
 use polynomials::faults::RowFault;
+use polynomials::gcd::gcd;
 use std::error::AnyError;
 use std::io;
+use tables::content::take_content;
 use text::Code;
 use text::CodeDisplay;
 use text::Notation;
@@ -24,40 +34,6 @@ use text::Row;
 use text::RowDisplay;
 use text::Table;
 use text::TableDisplay;
-
-// What was cancelled at a point.
-fn print_cancelled(rt: &impl Print, c: &Cancelled, notation: Notation) -> io::Result<()> {
-    let left = Row {
-        codes: &c.left,
-        unknown: 'x',
-        notation,
-    };
-    let right = Row {
-        codes: &c.right,
-        unknown: 'x',
-        notation,
-    };
-    println!(rt, "  A becomes {left}")?;
-    println!(rt, "  B becomes {right}")?;
-    let shared = Row {
-        codes: &c.shared,
-        unknown: 'x',
-        notation,
-    };
-    println!(rt, "  they share {shared}")?;
-    let left = Row {
-        codes: &c.left_over,
-        unknown: 'x',
-        notation,
-    };
-    let right = Row {
-        codes: &c.right_over,
-        unknown: 'x',
-        notation,
-    };
-    println!(rt, "  what is left of A: {left}")?;
-    println!(rt, "  what is left of B: {right}")
-}
 
 // A refusal, by its number and in words.
 fn print_fault(rt: &impl Print, fault: RowFault, notation: Notation) -> io::Result<()> {
@@ -82,12 +58,125 @@ fn print_fault(rt: &impl Print, fault: RowFault, notation: Notation) -> io::Resu
     }
 }
 
-// A pair of tables at some points.
-fn print_pair<K: Coefficients>(
+// The other factor of an image.
+fn print_cofactor<K: Coefficients>(
+    rt: &impl Print,
+    kind: &K,
+    name: char,
+    row: &[u64; 16],
+    by: &[u64; 16],
+    notation: Notation,
+) -> io::Result<()> {
+    let mut rest = *row;
+    let mut quotient = [0; 16];
+    if let Err(fault) = divide(kind, &mut rest, by, &mut quotient) {
+        return print_fault(rt, fault, notation);
+    }
+    let quotient = Row {
+        codes: &quotient,
+        unknown: 'x',
+        notation,
+    };
+    println!(rt, "  what is left of {name}: {quotient}")
+}
+
+// What the images at a point share, and what is left of them.
+fn print_shared<K: Coefficients>(
+    rt: &impl Print,
+    kind: &K,
+    left: &[u64; 16],
+    right: &[u64; 16],
+    notation: Notation,
+) -> io::Result<()> {
+    let mut shared = *left;
+    let mut used = *right;
+    let size = match gcd(kind, &mut shared, &mut used) {
+        Ok(size) => size,
+        Err(fault) => return print_fault(rt, fault, notation),
+    };
+    let degree = size.saturating_sub(1);
+    let row = Row {
+        codes: &shared,
+        unknown: 'x',
+        notation,
+    };
+    println!(rt, "  they share {row}, of degree {degree}")?;
+    print_cofactor(rt, kind, 'A', left, &shared, notation)?;
+    print_cofactor(rt, kind, 'B', right, &shared, notation)
+}
+
+// Both tables where y is a point.
+fn print_point<K: Coefficients>(
     rt: &impl Print,
     kind: &K,
     pair: &Pair,
-    points: &[u64],
+    point: u64,
+    notation: Notation,
+) -> io::Result<()> {
+    let y = Code {
+        code: point,
+        notation,
+    };
+    println!(rt, "y set to {y}:")?;
+    let mut left = [0; 16];
+    if let Err(fault) = image(kind, &pair.a, point, &mut left) {
+        return print_fault(rt, fault, notation);
+    }
+    let mut right = [0; 16];
+    if let Err(fault) = image(kind, &pair.b, point, &mut right) {
+        return print_fault(rt, fault, notation);
+    }
+    let a = Row {
+        codes: &left,
+        unknown: 'x',
+        notation,
+    };
+    let b = Row {
+        codes: &right,
+        unknown: 'x',
+        notation,
+    };
+    println!(rt, "  A' becomes {a}")?;
+    println!(rt, "  B' becomes {b}")?;
+    print_shared(rt, kind, &left, &right, notation)
+}
+
+// Splits the content off a table, and prints both; leaves the table without it.
+fn print_content<K: Coefficients>(
+    rt: &impl Print,
+    kind: &K,
+    name: char,
+    table: &mut [u64; 256],
+    notation: Notation,
+) -> io::Result<()> {
+    let mut content = [0; 16];
+    let mut part = [0; 256];
+    match take_content(kind, table, 16, &mut content, &mut part) {
+        Ok(_) => {
+            let row = Row {
+                codes: &content,
+                unknown: 'y',
+                notation,
+            };
+            let rest = Table {
+                codes: &part,
+                notation,
+            };
+            println!(rt, "the content of {name} is {row}, and {name}' = {rest}")?;
+            *table = part;
+            Ok(())
+        }
+        Err(_) => println!(rt, "{name} has no content that can be split off"),
+    }
+}
+
+// A pair of tables, prepared, at the first points of a standard pile.
+fn print_pair<K: Listed + Copy>(
+    rt: &impl Print,
+    kind: K,
+    mut pair: Pair,
+    by: u64,
+    codes: &[u64],
     notation: Notation,
 ) -> io::Result<()> {
     let a = Table {
@@ -100,15 +189,12 @@ fn print_pair<K: Coefficients>(
     };
     println!(rt, "A = {a}")?;
     println!(rt, "B = {b}")?;
-    for point in points {
-        let y = Code {
-            code: *point,
-            notation,
-        };
-        println!(rt, "y set to {y}:")?;
-        match cancel(kind, &pair.a, &pair.b, *point) {
-            Ok(cancelled) => print_cancelled(rt, &cancelled, notation)?,
-            Err(fault) => print_fault(rt, fault, notation)?,
+    print_content(rt, &kind, 'A', &mut pair.a, notation)?;
+    print_content(rt, &kind, 'B', &mut pair.b, notation)?;
+    let mut pile = standard_pile(kind, by, codes);
+    for _ in 0..5u8 {
+        if let Some(point) = pile.draw() {
+            print_point(rt, &kind, &pair, point, notation)?;
         }
     }
     Ok(())
@@ -118,23 +204,24 @@ fn run(rt: &impl Print) -> Result<(), AnyError> {
     let Ok(residues) = Residues::new(11) else {
         return Err("11 is no modulus".into());
     };
-    println!(rt, "Residues modulo 11.")?;
+    println!(
+        rt,
+        "Residues modulo 11, and a pile of 10, 0, 5, 20 and all residues, shifted by 3."
+    )?;
     print_pair(
         rt,
-        &residues,
-        &residue_pair(),
-        &[2, 3, 8, 11],
+        residues,
+        residue_pair(),
+        3,
+        &[10, 0, 5, 20],
         Notation::Decimal,
     )?;
     println!(rt, "")?;
-    println!(rt, "Bytes, in hexadecimal.")?;
-    print_pair(
+    println!(
         rt,
-        &Bytes::new(),
-        &byte_pair(),
-        &[0, 1],
-        Notation::Hexadecimal,
+        "Bytes in hexadecimal, and a pile of all bytes, not shifted."
     )?;
+    print_pair(rt, Bytes::new(), byte_pair(), 0, &[], Notation::Hexadecimal)?;
     Ok(())
 }
 

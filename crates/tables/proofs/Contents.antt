@@ -1,5 +1,5 @@
 -- The content of the first rows of a table, row by row.
-use mathlib.Core.Path.{_≡_, refl, sym, ap, subst, _∙_}
+use mathlib.Core.Path.{_≡_, sym, ap, subst, _∙_}
 use mathlib.Core.List.{List}
 use mathlib.Core.Logic.{_⊎_, inl, inr}
 use Prim.Native.Nat.{ℕ, _+_, _*_, _≤_, _<_}
@@ -89,7 +89,7 @@ module _ (K : Arithmetic) (w : ℕ) (t : List ℕ) where
 
     -- one divides every row
     pub gathered-one : i ≤ 16 → n ≡ 1 → Gathering K w t d (Ok n)
-    gathered-one le e = whole (λ lw h k far near. divides-eq (polynomials lw) refl (polynomial lw (cut-row w t k), sym (ap (λ x. polynomials lw .mul x (polynomial lw (cut-row w t k))) (one lw h) ∙ one-mul (polynomials lw) _))) le
+    gathered-one le e = whole (λ lw h k far near. (polynomial lw (cut-row w t k), sym (ap (λ x. polynomials lw .mul x (polynomial lw (cut-row w t k))) (one lw h) ∙ one-mul (polynomials lw) _))) le
       where
         one : (lw : Laws K) → Inside K t → polynomial lw d ≡ polynomials lw .one
         one lw h =

@@ -96,7 +96,7 @@ pub fn divide_rows<K: Coefficients>(
     Ok(())
 }
 
-// Leaves the content and the rows divided by it, and answers the content's size. The rows must not be all zero.
+// Leaves the content and the rows divided by it, and answers the content's size. Rows that are all zero are refused.
 pub fn take_content<K: Coefficients>(
     kind: &K,
     rows: &[u64],

@@ -1,0 +1,13 @@
+pub mod Grow
+pub mod Lists
+pub mod Divide
+pub mod Elements
+pub mod Gcd
+pub mod Images
+pub mod Exact
+pub mod Content
+pub mod Interpolate
+pub mod Join
+pub mod Tables
+pub mod Rows
+pub mod Values
