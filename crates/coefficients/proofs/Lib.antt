@@ -1,5 +1,7 @@
 pub mod Below
+pub mod Dots
 pub mod Modular
+pub mod Late
 pub mod Euclid
 pub mod PrimeFields
 pub mod Every

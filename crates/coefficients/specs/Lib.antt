@@ -1,5 +1,6 @@
 pub mod Arithmetic
 pub mod Reciprocal
+pub mod Dot
 pub mod Listing
 pub mod Refusals
 pub mod Below

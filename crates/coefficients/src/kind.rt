@@ -5,6 +5,7 @@ ghost use Prim.Native.Nat.{ℕ, _≤_};
 ghost use Rattle.coefficients.specs.Arithmetic.{Arithmetic, Laws};
 ghost use Rattle.coefficients.specs.Reciprocal.{Reciprocal};
 ghost use Rattle.coefficients.specs.Refusals.{reciprocal-refusal};
+ghost use Rattle.coefficients.specs.Dot.{dot-of};
 use rules::refusal::Refusal;
 use rules::refusal::Stage;
 
@@ -68,4 +69,21 @@ pub trait Coefficients {
 
     fn reciprocal(&self, a: u64) -> Result<u64, ReciprocalFault>
         ensures { λ r. ⌜ Reciprocal (arithmetic (now (self .entry))) a r ⌝ };
+
+    // The sum of the products at each place, over the shorter length. A kind may reduce it in its own way.
+    fn dot(&self, xs: &[u64], ys: &[u64]) -> u64
+        ensures { λ r. ⌜ r ≡ dot-of (arithmetic (now (self .entry))) (now (xs .entry)) (now (ys .entry)) ⌝ }
+    {
+        let mut total = self.zero();
+        let mut i = if xs.len() < ys.len() {
+            xs.len()
+        } else {
+            ys.len()
+        };
+        while i > 0 {
+            i -= 1;
+            total = self.add(self.mul(xs[i], ys[i]), total);
+        }
+        total
+    }
 }

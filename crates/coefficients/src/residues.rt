@@ -40,6 +40,24 @@ fn reduced(n: u64, modulus: u64) -> u64
     if n < modulus { n } else { n - modulus }
 }
 
+// One more product, where the sum of products is kept below the square of the modulus and not reduced.
+fn gather(modulus: u64, total: u64, x: u64, y: u64) -> u64
+    requires { ⌜ 2 ≤ modulus ⌝ ∗ ⌜ modulus ≤ 2147483647 ⌝ ∗ ⌜ total < modulus * modulus ⌝ }
+    ensures below { λ r. ⌜ r < modulus * modulus ⌝ }
+    ensures same { λ r. ⌜ r % modulus ≡ modulo modulus .sum (modulo modulus .product x y) (total % modulus) ⌝ }
+{
+    if x < modulus && y < modulus {
+        let more = total + x * y;
+        if more < modulus * modulus {
+            more
+        } else {
+            more - modulus * modulus
+        }
+    } else {
+        total
+    }
+}
+
 pub impl Coefficients for Residues as ResiduesCoefficients {
     const LARGEST: u64 = 2147483646;
 
@@ -110,6 +128,22 @@ pub impl Coefficients for Residues as ResiduesCoefficients {
         } else {
             Err(ReciprocalFault::NoReciprocal(a))
         }
+    }
+
+    // With one division, at the end.
+    fn dot(&self, xs: &[u64], ys: &[u64]) -> u64 {
+        let modulus = self.modulus;
+        let mut total = 0;
+        let mut i = if xs.len() < ys.len() {
+            xs.len()
+        } else {
+            ys.len()
+        };
+        while i > 0 {
+            i -= 1;
+            total = gather(modulus, total, xs[i], ys[i]);
+        }
+        total % modulus
     }
 }
 
