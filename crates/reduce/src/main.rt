@@ -27,6 +27,7 @@ use polynomials::gcd::gcd;
 use std::error::AnyError;
 use std::io;
 use tables::content::take_content;
+use tables::lead::lead_gcd;
 use text::Code;
 use text::CodeDisplay;
 use text::Notation;
@@ -170,6 +171,30 @@ fn print_content<K: Coefficients>(
     }
 }
 
+// γ of two tables without content: what their leading coefficients in x share.
+fn print_gamma<K: Coefficients>(
+    rt: &impl Print,
+    kind: &K,
+    pair: &Pair,
+    notation: Notation,
+) -> io::Result<()> {
+    let mut shared = [0; 16];
+    match lead_gcd(kind, &pair.a, &pair.b, 16, &mut shared) {
+        Ok(_) => {
+            let row = Row {
+                codes: &shared,
+                unknown: 'y',
+                notation,
+            };
+            println!(rt, "the leading coefficients of A' and B' share {row}")
+        }
+        Err(_) => println!(
+            rt,
+            "the leading coefficients have no greatest common divisor that can be found"
+        ),
+    }
+}
+
 // A pair of tables, prepared, at the first points of a standard pile.
 fn print_pair<K: Listed + Copy>(
     rt: &impl Print,
@@ -191,6 +216,7 @@ fn print_pair<K: Listed + Copy>(
     println!(rt, "B = {b}")?;
     print_content(rt, &kind, 'A', &mut pair.a, notation)?;
     print_content(rt, &kind, 'B', &mut pair.b, notation)?;
+    print_gamma(rt, &kind, &pair, notation)?;
     let mut pile = standard_pile(kind, by, codes);
     for _ in 0..5u8 {
         if let Some(point) = pile.draw() {

@@ -7,3 +7,6 @@ pub mod Points
 pub mod Growing
 pub mod Correcting
 pub mod Newton
+pub mod Leads
+pub mod Multiples
+pub mod MonicRows

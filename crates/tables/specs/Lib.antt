@@ -1,3 +1,5 @@
 pub mod Degrees
 pub mod Content
 pub mod Join
+pub mod Lead
+pub mod Scale

@@ -5,5 +5,7 @@ pub mod content;
 pub mod degrees;
 pub mod faults;
 pub mod join;
+pub mod lead;
+pub mod scale;
 #[cfg(test)]
 mod tests;
