@@ -10,3 +10,6 @@ pub mod Newton
 pub mod Leads
 pub mod Multiples
 pub mod MonicRows
+pub mod Taken
+pub mod Tops
+pub mod LongDivision

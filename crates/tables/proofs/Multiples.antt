@@ -39,7 +39,7 @@ sized-below K l (suc n) le z = go (ℕ-discrete (getD l n 0) (K .zero)) (sized-b
         at i (inr here) far lt = let p : i ≡ n = omega arith in ap (λ j. getD l j 0) p ∙ e
     go (no k) less = (suc n, record { within = le; zeros = z; lead = λ pos e. let p : suc n - 1 ≡ n = omega arith in k (ap (λ j. getD l j 0) (sym p) ∙ e) })
 
-sized-any : (K : Arithmetic) (l : List ℕ) → (m : ℕ) × Sized K l m
+pub sized-any : (K : Arithmetic) (l : List ℕ) → (m : ℕ) × Sized K l m
 sized-any K l = sized-below K l (length l) (omega arith) (λ i far lt. absurd (omega arith))
 
 -- the first i rows of p are g times those of t

@@ -3,3 +3,4 @@ pub mod Content
 pub mod Join
 pub mod Lead
 pub mod Scale
+pub mod Exact

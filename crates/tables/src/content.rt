@@ -56,7 +56,7 @@ pub fn content<K: Coefficients>(
 }
 
 // Divides a row by `by`, which must come out even.
-fn divide_even<K: Coefficients>(
+pub fn divide_even<K: Coefficients>(
     kind: &K,
     row: &[u64],
     by: &[u64],

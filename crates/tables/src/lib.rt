@@ -3,6 +3,7 @@
 // These are steps for the crates above: they ask for lengths that fit, and promise what they do where the rows have elements.
 pub mod content;
 pub mod degrees;
+pub mod exact;
 pub mod faults;
 pub mod join;
 pub mod lead;
