@@ -1,5 +1,4 @@
 // Prepares a pair of tables, sets y to points from a pile, and prints what the images share and what is left of them.
-mod examples;
 mod text;
 
 use coefficients::bytes::Bytes;
@@ -11,9 +10,6 @@ use coefficients::listed::Listed;
 use coefficients::residues::Residues;
 use coefficients::residues::ResiduesCoefficients;
 use coefficients::residues::ResiduesListed;
-use examples::Pair;
-use examples::byte_pair;
-use examples::residue_pair;
 use points::chain::ChainSource;
 use points::counting::CountingSource;
 use points::pile::standard_pile;
@@ -35,6 +31,41 @@ use text::Row;
 use text::RowDisplay;
 use text::Table;
 use text::TableDisplay;
+
+// Two tables: place 16 i + j holds the coefficient of x^i y^j.
+#[derive(Clone, Copy)]
+struct Pair {
+    a: [u64; 256],
+    b: [u64; 256],
+}
+
+// A = (y^2 + 3y) x^3 + (y^2 + y + 2) x^2 + (y + 8) x and B = (y^2 + 3y) x^3 + y x^2.
+fn residue_pair() -> Pair {
+    let mut a = [0; 256];
+    a[16] = 8;
+    a[17] = 1;
+    a[32] = 2;
+    a[33] = 1;
+    a[34] = 1;
+    a[49] = 3;
+    a[50] = 1;
+    let mut b = [0; 256];
+    b[33] = 1;
+    b[49] = 3;
+    b[50] = 1;
+    Pair { a, b }
+}
+
+// A = x^2 + {57} x y and B = {83} x + {c1} y.
+fn byte_pair() -> Pair {
+    let mut a = [0; 256];
+    a[17] = 0x57;
+    a[32] = 1;
+    let mut b = [0; 256];
+    b[1] = 0xc1;
+    b[16] = 0x83;
+    Pair { a, b }
+}
 
 // A refusal, by its number and in words.
 fn print_fault(rt: &impl Print, fault: RowFault, notation: Notation) -> io::Result<()> {
