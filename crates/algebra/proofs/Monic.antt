@@ -1,5 +1,5 @@
 -- Units and monic elements of a ring and of its polynomials: of the elements that divide one another one is monic.
-use Rattle.std.proofs.Common.{◌≡◌, zero, suc, ◌+◌, ◌≤◌, [], ◌∷◌, sym, ap, ◌∙◌, subst, ap₂, arith}
+use Rattle.std.proofs.Common.{◌≡◌, suc, ◌+◌, ◌≤◌, [], ◌∷◌, sym, ap, ◌∙◌, subst, ap₂, arith}
 use mathlib.Core.HLevel.{Discrete}
 use Rattle.algebra.specs.Ring.{Ring, combine, zero-mul, mul-one, one-mul, mul_comm}
 use Rattle.algebra.specs.Solver.{by_ring, quoting}

@@ -113,7 +113,7 @@ module _ {E : Type 0} (R : Ring E) where
 
   times_add : (m n : ℕ) → times (m + n) ≡ times m ⊕ times n
   unfolding times
-  times_add zero n = rw (NatL.zero_add n) (sym (zero_add R _))
+  times_add zero n = rw (NatL.zero-add n) (sym (zero_add R _))
   times_add (suc m) n = ap times (NatL.suc-add m n) ∙ ap (λ x. 𝟙 ⊕ x) (times_add m n) ∙ sym (R.add_assoc _ _ _)
 
   times_mul : (m n : ℕ) → times (m * n) ≡ times m ⊙ times n

@@ -1,4 +1,6 @@
 // Sources of points: an interface by the list of codes that wait, and four makes.
+#![tactic(auto)]
+
 pub mod chain;
 pub mod counting;
 pub mod pile;

@@ -15,7 +15,7 @@ pub fn divide<K: Coefficients>(
     by: &[u64],
     quotient: &mut [u64],
 ) -> Result<(), RowFault>
-    ensures { Dividing (arithmetic kind.now) rest.old by.now quotient.old rest.new quotient.new result }
+    ensures { Dividing (K.arithmetic kind.now) rest.old by.now quotient.old rest.new quotient.new result }
 {
     if quotient.len() < rest.len() {
         return Err(RowFault::Length {
@@ -35,8 +35,8 @@ pub fn lead_inverse<K: Coefficients>(
     by: &[u64],
     count: usize,
 ) -> Result<u64, ReciprocalFault>
-    requires { Sized (arithmetic kind.now) by.now count }
-    ensures { MatchResult result (λ i. Inverts (arithmetic kind.now) by.now count i) (λ e. Undivided (arithmetic kind.now) by.now e) }
+    requires { Sized (K.arithmetic kind.now) by.now count }
+    ensures { MatchResult result (λ i. Inverts (K.arithmetic kind.now) by.now count i) (λ e. Undivided (K.arithmetic kind.now) by.now e) }
 {
     if count == 0 {
         Err(ReciprocalFault::NoReciprocal(kind.zero()))
@@ -55,8 +55,8 @@ fn cut<K: Coefficients>(
     inverse: u64,
 ) -> u64
     requires { (shift + count ≤ length rest.old) × ((0 < count) × (count ≤ length by.now)) }
-    ensures factor { result ≡ (arithmetic kind.now).product (slice_index rest.old (shift + count - 1)) inverse }
-    ensures left { Lessened (arithmetic kind.now) rest.old rest.new shift result by.now count }
+    ensures factor { result ≡ (K.arithmetic kind.now).product (slice_index rest.old (shift + count - 1)) inverse }
+    ensures left { Lessened (K.arithmetic kind.now) rest.old rest.new shift result by.now count }
 {
     let factor = kind.mul(rest[shift + count - 1], inverse);
     lessen(kind, rest, shift, factor, by, count);
@@ -73,8 +73,8 @@ pub fn divide_by<K: Coefficients>(
     quotient: &mut [u64],
 )
     requires room { length rest.old ≤ length quotient.old }
-    requires lead { (Sized (arithmetic kind.now) by.now count) × (Inverts (arithmetic kind.now) by.now count inverse) }
-    ensures { Divided (arithmetic kind.now) rest.old by.now rest.new quotient.new }
+    requires lead { (Sized (K.arithmetic kind.now) by.now count) × (Inverts (K.arithmetic kind.now) by.now count inverse) }
+    ensures { Divided (K.arithmetic kind.now) rest.old by.now rest.new quotient.new }
 {
     clear(kind, quotient);
     let mut top = rest.len();
@@ -94,7 +94,7 @@ pub fn divide_row<K: Coefficients>(
     quotient: &mut [u64],
 ) -> Result<(), ReciprocalFault>
     requires { length rest.old ≤ length quotient.old }
-    ensures { Division (arithmetic kind.now) rest.old by.now quotient.old rest.new quotient.new result }
+    ensures { Division (K.arithmetic kind.now) rest.old by.now quotient.old rest.new quotient.new result }
 {
     let count = size(kind, by);
     let inverse = lead_inverse(kind, by, count)?;
@@ -108,7 +108,7 @@ pub fn reduce_row<K: Coefficients>(
     rest: &mut [u64],
     by: &[u64],
 ) -> Result<(), ReciprocalFault>
-    ensures { Reduction (arithmetic kind.now) rest.old by.now rest.new result }
+    ensures { Reduction (K.arithmetic kind.now) rest.old by.now rest.new result }
 {
     let count = size(kind, by);
     let inverse = lead_inverse(kind, by, count)?;

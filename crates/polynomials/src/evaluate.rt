@@ -10,7 +10,7 @@ use coefficients::kind::Coefficients;
 
 // The value of `row` at `point`.
 pub fn evaluate<K: Coefficients>(kind: &K, row: &[u64], point: u64) -> Result<u64, RowFault>
-    ensures { Evaluation (arithmetic kind.now) row.now point result }
+    ensures { Evaluation (K.arithmetic kind.now) row.now point result }
 {
     check_codes(kind, row, 1)?;
     check_codes(kind, &[point], 2)?;
@@ -24,7 +24,7 @@ pub fn image<K: Coefficients>(
     point: u64,
     row: &mut [u64],
 ) -> Result<(), RowFault>
-    ensures { Imaging (arithmetic kind.now) table.now point row.old row.new result }
+    ensures { Imaging (K.arithmetic kind.now) table.now point row.old row.new result }
 {
     if table.len() != 256 {
         return Err(RowFault::Length {
@@ -46,7 +46,7 @@ pub fn image<K: Coefficients>(
 
 // The value of a row, from the highest power down.
 pub fn horner<K: Coefficients>(kind: &K, row: &[u64], point: u64) -> u64
-    ensures { Valued (arithmetic kind.now) row.now point result }
+    ensures { Valued (K.arithmetic kind.now) row.now point result }
 {
     let mut value = kind.zero();
     for i in (0..row.len()).rev() {
@@ -57,7 +57,7 @@ pub fn horner<K: Coefficients>(kind: &K, row: &[u64], point: u64) -> u64
 
 // Writes 1, x, x², .. for the point x into `powers`, as far as it goes.
 pub fn fill_powers<K: Coefficients>(kind: &K, point: u64, powers: &mut [u64])
-    ensures { Powers (arithmetic kind.now) point powers.new }
+    ensures { Powers (K.arithmetic kind.now) point powers.new }
 {
     let mut power = kind.one();
     for i in 0..powers.len() {
@@ -69,7 +69,7 @@ pub fn fill_powers<K: Coefficients>(kind: &K, point: u64, powers: &mut [u64])
 // The image of a table: each row by the powers of the point.
 pub fn image_row<K: Coefficients>(kind: &K, table: &[u64], point: u64, row: &mut [u64])
     requires { (length table.now ≡ 256) × (length row.old ≡ 16) }
-    ensures { Imaged (arithmetic kind.now) table.now point row.new }
+    ensures { Imaged (K.arithmetic kind.now) table.now point row.new }
 {
     let mut powers = [0u64; 16];
     fill_powers(kind, point, &mut powers);

@@ -10,7 +10,7 @@ use coefficients::kind::{Coefficients, ReciprocalFault};
 
 // Leaves the monic greatest common divisor of two rows of one length in `a`, and answers its size. `b` is left zero.
 pub fn gcd<K: Coefficients>(kind: &K, a: &mut [u64], b: &mut [u64]) -> Result<usize, RowFault>
-    ensures { Sharing (arithmetic kind.now) a.old b.old a.new b.new result }
+    ensures { Sharing (K.arithmetic kind.now) a.old b.old a.new b.new result }
 {
     if a.len() != b.len() {
         return Err(RowFault::Length {
@@ -26,7 +26,7 @@ pub fn gcd<K: Coefficients>(kind: &K, a: &mut [u64], b: &mut [u64]) -> Result<us
 
 // Makes the leading coefficient one, and answers the size.
 pub fn make_monic<K: Coefficients>(kind: &K, row: &mut [u64]) -> Result<usize, ReciprocalFault>
-    ensures { MadeMonic (arithmetic kind.now) row.old row.new result }
+    ensures { MadeMonic (K.arithmetic kind.now) row.old row.new result }
 {
     let n = size(kind, row);
     if n == 0 {
@@ -44,7 +44,7 @@ pub fn gcd_row<K: Coefficients>(
     b: &mut [u64],
 ) -> Result<usize, ReciprocalFault>
     requires { length a.old ≡ length b.old }
-    ensures { Common (arithmetic kind.now) a.old b.old a.new b.new result }
+    ensures { Common (K.arithmetic kind.now) a.old b.old a.new b.new result }
 {
     let mut n = size(kind, b);
     while n > 0 {

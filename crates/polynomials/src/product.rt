@@ -14,7 +14,7 @@ fn has_room(m: usize, n: usize, room: usize) -> bool
 
 // Writes the product of two rows into `product`. Answers whether there is room for it; where there is none nothing is written.
 pub fn multiply_row<K: Coefficients>(kind: &K, a: &[u64], b: &[u64], product: &mut [u64]) -> bool
-    ensures { Multiplied (arithmetic kind.now) a.now b.now product.old product.new result }
+    ensures { Multiplied (K.arithmetic kind.now) a.now b.now product.old product.new result }
 {
     let terms = size(kind, a);
     let count = size(kind, b);

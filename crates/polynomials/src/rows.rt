@@ -8,7 +8,7 @@ use coefficients::kind::Coefficients;
 
 // Whether every code of a row is an element: the first that is not is refused, under the row's number.
 pub fn check_codes<K: Coefficients>(kind: &K, codes: &[u64], row: u64) -> Result<(), RowFault>
-    ensures { MatchResult result (λ _. Inside (arithmetic kind.now) codes.now) (λ e. ForeignRow (arithmetic kind.now) codes.now row e) }
+    ensures { MatchResult result (λ _. Inside (K.arithmetic kind.now) codes.now) (λ e. ForeignRow (K.arithmetic kind.now) codes.now row e) }
 {
     for (place, code) in codes.iter().enumerate() {
         if !kind.contains(*code) {
@@ -24,7 +24,7 @@ pub fn check_codes<K: Coefficients>(kind: &K, codes: &[u64], row: u64) -> Result
 
 // The size of a row: one more than the place of the last code that is not zero, or 0.
 pub fn size<K: Coefficients>(kind: &K, row: &[u64]) -> usize
-    ensures { Sized (arithmetic kind.now) row.now result }
+    ensures { Sized (K.arithmetic kind.now) row.now result }
 {
     let zero = kind.zero();
     let mut n = row.len();
@@ -36,7 +36,7 @@ pub fn size<K: Coefficients>(kind: &K, row: &[u64]) -> usize
 
 // Writes zero into each place.
 pub fn clear<K: Coefficients>(kind: &K, row: &mut [u64])
-    ensures { (i : ℕ) → i < length row.old → slice_index row.new i ≡ (arithmetic kind.now).zero }
+    ensures { (i : ℕ) → i < length row.old → slice_index row.new i ≡ (K.arithmetic kind.now).zero }
 {
     let zero = kind.zero();
     for i in 0..row.len() {
@@ -54,7 +54,7 @@ pub fn lessen<K: Coefficients>(
     count: usize,
 )
     requires { (shift + count ≤ length acc.old) × (count ≤ length row.now) }
-    ensures { Lessened (arithmetic kind.now) acc.old acc.new shift by row.now count }
+    ensures { Lessened (K.arithmetic kind.now) acc.old acc.new shift by row.now count }
 {
     for j in 0..count {
         acc[shift + j] = kind.sub(acc[shift + j], kind.mul(by, row[j]));
@@ -63,7 +63,7 @@ pub fn lessen<K: Coefficients>(
 
 // Multiplies each code.
 pub fn scale<K: Coefficients>(kind: &K, row: &mut [u64], by: u64)
-    ensures { (i : ℕ) → i < length row.old → slice_index row.new i ≡ (arithmetic kind.now).product by (slice_index row.old i) }
+    ensures { (i : ℕ) → i < length row.old → slice_index row.new i ≡ (K.arithmetic kind.now).product by (slice_index row.old i) }
 {
     for i in 0..row.len() {
         row[i] = kind.mul(by, row[i]);

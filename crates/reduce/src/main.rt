@@ -1,4 +1,6 @@
 // Prepares a pair of tables, sets y to points from a pile, and prints what the images share and what is left of them.
+#![tactic(auto)]
+
 mod text;
 
 use anyhow::anyhow;

@@ -1,5 +1,7 @@
 //! A job: two tables come in, points are offered one at a time or drawn from sources, and once enough different lucky points came the greatest
 //! common divisor and both cofactors are collected.
+#![tactic(auto)]
+
 mod counting;
 mod faults;
 mod held;

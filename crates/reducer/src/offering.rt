@@ -65,7 +65,7 @@ fn is_high(job: &Job, degree: usize) -> bool
 }
 
 fn class_of<K: Coefficients>(kind: &K, job: &Job, point: u64) -> Class
-    ensures { Classed (arithmetic kind.now) job.now point result }
+    ensures { Classed (K.arithmetic kind.now) job.now point result }
 {
     if !kind.contains(point) {
         return Class::Foreign;
@@ -187,7 +187,7 @@ fn hold_constant<K: Coefficients>(
     requires room { (job.old.counts.offered < limit) × (kept < 31) }
     requires kept { kept ≡ (if nat_lt rows.now.degree job.old.level then 0 else job.old.counts.held) }
     requires constant { rows.now.degree ≡ 0 }
-    ensures { Promised (arithmetic kind.now) (λ a b. Fitting (arithmetic kind.now) a b job.old point rows.now) job.old point job.new result }
+    ensures { Promised (K.arithmetic kind.now) (λ a b. Fitting (K.arithmetic kind.now) a b job.old point rows.now) job.old point job.new result }
 {
     match reduce_free(kind, &job.workings) {
         Ok(reduction) => {
@@ -208,7 +208,7 @@ fn hold_constant<K: Coefficients>(
 // As many points as the closing number, of which the last is not counted yet, are joined and tested.
 fn hold_last<K: Coefficients>(kind: &K, job: &mut Job, degree: usize) -> Result<Answer, Refusal>
     requires { (job.old.counts.offered < limit) × (job.old.counts.held + 1 ≡ job.old.workings.closing) }
-    ensures { Promised (arithmetic kind.now) (λ a b. Complete (arithmetic kind.now) a b job.old degree) job.old (slice_index job.old.points job.old.counts.held) job.new result }
+    ensures { Promised (K.arithmetic kind.now) (λ a b. Complete (K.arithmetic kind.now) a b job.old degree) job.old (slice_index job.old.points job.old.counts.held) job.new result }
 {
     let held = job.counts.held as usize;
     let count = held + 1;
@@ -234,7 +234,7 @@ fn hold<K: Coefficients>(
     rows: &ImageRows,
 ) -> Result<Answer, Refusal>
     requires { (job.old.standing ≡ Stands.Gathering) × (job.old.counts.offered < limit) }
-    ensures { Promised (arithmetic kind.now) (λ a b. Fitting (arithmetic kind.now) a b job.old point rows.now) job.old point job.new result }
+    ensures { Promised (K.arithmetic kind.now) (λ a b. Fitting (K.arithmetic kind.now) a b job.old point rows.now) job.old point job.new result }
 {
     let held = job.counts.held as usize;
     let kept = if rows.degree < job.level { 0 } else { held };
@@ -258,7 +258,7 @@ fn hold<K: Coefficients>(
 
 // Offers a point.
 pub fn offer_point<K: Coefficients>(kind: &K, job: &mut Job, point: u64) -> Result<Answer, Refusal>
-    ensures { Promised (arithmetic kind.now) (λ a b. Sound (arithmetic kind.now) a b job.old) job.old point job.new result }
+    ensures { Promised (K.arithmetic kind.now) (λ a b. Sound (K.arithmetic kind.now) a b job.old) job.old point job.new result }
 {
     let class = class_of(kind, job, point);
     match (phase_of(job), class) {

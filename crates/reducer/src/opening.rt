@@ -33,7 +33,7 @@ pub fn check_length(table: Table, codes: &[u64]) -> Result<(), Refusal>
 
 // Every code is an element: the first that is none is named.
 fn check_elements<K: Coefficients>(kind: &K, table: Table, codes: &[u64]) -> Result<(), Refusal>
-    ensures { AllElements (arithmetic kind.now) table codes.now result }
+    ensures { AllElements (K.arithmetic kind.now) table codes.now result }
 {
     for (place, code) in codes.iter().enumerate() {
         if !kind.contains(*code) {
@@ -49,7 +49,7 @@ fn check_elements<K: Coefficients>(kind: &K, table: Table, codes: &[u64]) -> Res
 
 // Some code is not zero; answers one more than the place of the last.
 fn check_some<K: Coefficients>(kind: &K, table: Table, codes: &[u64]) -> Result<usize, Refusal>
-    ensures { SomeCode (arithmetic kind.now) table codes.now result }
+    ensures { SomeCode (K.arithmetic kind.now) table codes.now result }
 {
     match size(kind, codes) {
         0 => Err(Refusal::Zero { table }),
@@ -59,8 +59,8 @@ fn check_some<K: Coefficients>(kind: &K, table: Table, codes: &[u64]) -> Result<
 
 // The coefficient of the leading term has a reciprocal.
 fn check_lead<K: Coefficients>(kind: &K, codes: &[u64], count: usize) -> Result<(), Refusal>
-    requires { (0 < count) × ((Inside (arithmetic kind.now) codes.now) × (Sized (arithmetic kind.now) codes.now count)) }
-    ensures { Leads (arithmetic kind.now) codes.now count result }
+    requires { (0 < count) × ((Inside (K.arithmetic kind.now) codes.now) × (Sized (K.arithmetic kind.now) codes.now count)) }
+    ensures { Leads (K.arithmetic kind.now) codes.now count result }
 {
     match kind.reciprocal(codes[count - 1]) {
         Ok(_) => Ok(()),
@@ -73,7 +73,7 @@ fn check_lead<K: Coefficients>(kind: &K, codes: &[u64], count: usize) -> Result<
 
 // The checks of an opening.
 fn check<K: Coefficients>(kind: &K, a: &[u64], b: &[u64]) -> Result<(), Refusal>
-    ensures { Checked (arithmetic kind.now) a.now b.now result }
+    ensures { Checked (K.arithmetic kind.now) a.now b.now result }
 {
     check_length(Table::A, a)?;
     check_length(Table::B, b)?;
@@ -143,8 +143,8 @@ fn refuse(refusal: Refusal) -> Job
 
 // Opens a job for two tables.
 pub fn open_job<K: Coefficients>(kind: &K, a: &[u64], b: &[u64]) -> Job
-    ensures opened { Opened (arithmetic kind.now) a.now b.now (state_of result) }
-    ensures sound { Sound (arithmetic kind.now) a.now b.now result }
+    ensures opened { Opened (K.arithmetic kind.now) a.now b.now (state_of result) }
+    ensures sound { Sound (K.arithmetic kind.now) a.now b.now result }
 {
     if let Err(refusal) = check(kind, a, b) {
         return refuse(refusal);

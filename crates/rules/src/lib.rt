@@ -1,4 +1,6 @@
 // The rules of a job: answers, refusals and counts, what an offer and a run do, and the law over all lists of calls.
+#![tactic(auto)]
+
 ghost use Rattle.rules.specs.Law.{Law};
 ghost use Rattle.rules.specs.Examples.{Examples};
 

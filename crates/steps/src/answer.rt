@@ -38,7 +38,7 @@ fn enlarge<K: Coefficients>(
     by: &[u64],
 ) -> Result<[u64; 256], DivisionFault>
     requires { length table.now ≡ 256 }
-    ensures { Enlarging (arithmetic kind.now) table.now by.now result }
+    ensures { Enlarging (K.arithmetic kind.now) table.now by.now result }
 {
     let mut product = [0u64; 256];
     if multiply_rows(kind, table, 16, by, &mut product) {
@@ -57,7 +57,7 @@ fn finish<K: Coefficients>(
     right: &[u64],
 ) -> Result<Reduction, DivisionFault>
     requires { (length divisor.now ≡ 256) × ((length left.now ≡ 256) × (length right.now ≡ 256)) }
-    ensures { Finishing (arithmetic kind.now) workings.now divisor.now left.now right.now result }
+    ensures { Finishing (K.arithmetic kind.now) workings.now divisor.now left.now right.now result }
 {
     let shares = share(kind, &workings.left.content, &workings.right.content)?;
     Ok(Reduction {
@@ -72,7 +72,7 @@ pub fn reduce_free<K: Coefficients>(
     kind: &K,
     workings: &Workings,
 ) -> Result<Reduction, DivisionFault>
-    ensures { Free (arithmetic kind.now) workings.now result }
+    ensures { Free (K.arithmetic kind.now) workings.now result }
 {
     let mut one = [kind.zero(); 256];
     one[0] = kind.one();
@@ -91,7 +91,7 @@ pub fn reduce_joined<K: Coefficients>(
     workings: &Workings,
     joined: &JoinedRows,
 ) -> Result<Reduction, DivisionFault>
-    ensures { Closing (arithmetic kind.now) workings.now joined.now result }
+    ensures { Closing (K.arithmetic kind.now) workings.now joined.now result }
 {
     let mut content = [0u64; 32];
     let mut part = [0u64; 512];

@@ -33,7 +33,7 @@ fn images<K: Coefficients>(
     point: u64,
     value: u64,
 ) -> Result<ImageRows, DivisionFault>
-    ensures { Imaging (arithmetic kind.now) workings.now point value result }
+    ensures { Imaging (K.arithmetic kind.now) workings.now point value result }
 {
     let mut a = [0u64; 16];
     image_row(kind, &workings.left.rows, point, &mut a);
@@ -56,7 +56,7 @@ fn images<K: Coefficients>(
 
 // Looks at a point.
 pub fn look<K: Coefficients>(kind: &K, workings: &Workings, point: u64) -> Finding
-    ensures { Looking (arithmetic kind.now) workings.now point result }
+    ensures { Looking (K.arithmetic kind.now) workings.now point result }
 {
     let value = horner(kind, &workings.lead, point);
     if value == kind.zero() {

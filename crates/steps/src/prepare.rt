@@ -43,7 +43,7 @@ pub fn degree(n: usize) -> usize
 // Splits the content off a table.
 fn part_of<K: Coefficients>(kind: &K, table: &[u64]) -> Result<Part, DivisionFault>
     requires { length table.now ≡ 256 }
-    ensures { Parting (arithmetic kind.now) table.now result }
+    ensures { Parting (K.arithmetic kind.now) table.now result }
 {
     let mut content = [0u64; 16];
     let mut rows = [0u64; 256];
@@ -61,7 +61,7 @@ fn part_of<K: Coefficients>(kind: &K, table: &[u64]) -> Result<Part, DivisionFau
 // Prepares two tables.
 pub fn prepare<K: Coefficients>(kind: &K, a: &[u64], b: &[u64]) -> Result<Workings, DivisionFault>
     requires { (length a.now ≡ 256) × (length b.now ≡ 256) }
-    ensures { Preparing (arithmetic kind.now) a.now b.now result }
+    ensures { Preparing (K.arithmetic kind.now) a.now b.now result }
 {
     let left = part_of(kind, a)?;
     let right = part_of(kind, b)?;

@@ -24,7 +24,7 @@ pub fn share<K: Coefficients>(
     a: &[u64; 16],
     b: &[u64; 16],
 ) -> Result<Shares, DivisionFault>
-    ensures { Sharing (arithmetic kind.now) a.now b.now result }
+    ensures { Sharing (K.arithmetic kind.now) a.now b.now result }
 {
     let mut common = *a;
     let mut rest = *b;

@@ -26,7 +26,7 @@ pub fn join_images<K: Coefficients>(
 ) -> Result<JoinedRows, DivisionFault>
     requires points { length points.now ≤ 31 }
     requires images { (length divisors.now ≡ 16 * length points.now) × ((length lefts.now ≡ 16 * length points.now) × (length rights.now ≡ 16 * length points.now)) }
-    ensures { Joins (arithmetic kind.now) points.now divisors.now lefts.now rights.now result }
+    ensures { Joins (K.arithmetic kind.now) points.now divisors.now lefts.now rights.now result }
 {
     let mut divisor = [0u64; 512];
     join(kind, points, divisors, &mut divisor)?;
@@ -43,7 +43,7 @@ pub fn join_images<K: Coefficients>(
 
 // Whether the degrees in y of what is joined add up.
 pub fn passes<K: Coefficients>(kind: &K, workings: &Workings, joined: &JoinedRows) -> bool
-    ensures { Trying (arithmetic kind.now) workings.now joined.now result }
+    ensures { Trying (K.arithmetic kind.now) workings.now joined.now result }
 {
     let height = degree(size_y(kind, &joined.divisor, 32));
     let left = degree(size_y(kind, &joined.left, 32));

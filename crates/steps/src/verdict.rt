@@ -28,7 +28,7 @@ pub fn decide<K: Coefficients>(
 ) -> Verdict
     requires points { length points.now ≤ 31 }
     requires images { (length divisors.now ≡ 16 * length points.now) × ((length lefts.now ≡ 16 * length points.now) × (length rights.now ≡ 16 * length points.now)) }
-    ensures { Deciding (arithmetic kind.now) workings.now points.now divisors.now lefts.now rights.now result }
+    ensures { Deciding (K.arithmetic kind.now) workings.now points.now divisors.now lefts.now rights.now result }
 {
     match join_images(kind, points, divisors, lefts, rights) {
         Ok(joined) => {

@@ -20,7 +20,7 @@ fn gather_row<K: Coefficients>(
     content: &mut [u64],
 ) -> Result<usize, ReciprocalFault>
     requires { (length rows.now ≡ 16 * width) × ((width ≤ 32) × ((i < 16) × (length content.old ≡ width))) }
-    ensures { (e : List ℕ) × Common (arithmetic kind.now) content.old (cut_row width rows.now i) content.new e result }
+    ensures { (e : List ℕ) × Common (K.arithmetic kind.now) content.old (cut_row width rows.now i) content.new e result }
 {
     let start = row_start(width, i);
     let mut room = [0u64; 32];
@@ -37,7 +37,7 @@ pub fn content<K: Coefficients>(
     content: &mut [u64],
 ) -> Result<usize, ReciprocalFault>
     requires { (length rows.now ≡ 16 * width) × ((width ≤ 32) × (length content.old ≡ width)) }
-    ensures { Gathering (arithmetic kind.now) width rows.now content.new result }
+    ensures { Gathering (K.arithmetic kind.now) width rows.now content.new result }
 {
     clear(kind, content);
     let mut n = 0;
@@ -58,7 +58,7 @@ pub fn divide_even<K: Coefficients>(
     quotient: &mut [u64],
 ) -> Result<(), DivisionFault>
     requires { (length row.now ≤ 32) × (length quotient.old ≡ length row.now) }
-    ensures { Even (arithmetic kind.now) row.now by.now quotient.old quotient.new result }
+    ensures { Even (K.arithmetic kind.now) row.now by.now quotient.old quotient.new result }
 {
     let mut room = [0u64; 32];
     let rest = &mut room[..row.len()];
@@ -80,7 +80,7 @@ pub fn divide_rows<K: Coefficients>(
     quotient: &mut [u64],
 ) -> Result<(), DivisionFault>
     requires { (length rows.now ≡ 16 * width) × ((width ≤ 32) × ((length by.now ≡ width) × (length quotient.old ≡ length rows.now))) }
-    ensures { EvenRows (arithmetic kind.now) width rows.now by.now quotient.new result }
+    ensures { EvenRows (K.arithmetic kind.now) width rows.now by.now quotient.new result }
 {
     clear(kind, quotient);
     for i in 0..16usize {
@@ -100,7 +100,7 @@ pub fn take_content<K: Coefficients>(
     part: &mut [u64],
 ) -> Result<usize, DivisionFault>
     requires { (length rows.now ≡ 16 * width) × ((width ≤ 32) × ((length content.old ≡ width) × (length part.old ≡ length rows.now))) }
-    ensures { Parting (arithmetic kind.now) width rows.now part.old content.new part.new result }
+    ensures { Parting (K.arithmetic kind.now) width rows.now part.old content.new part.new result }
 {
     let n = crate::content::content(kind, rows, width, content)?;
     divide_rows(kind, rows, width, content, part)?;

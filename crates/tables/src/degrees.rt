@@ -18,7 +18,7 @@ pub fn row_start(width: usize, i: usize) -> usize
 // The size of the i-th row.
 fn row_size<K: Coefficients>(kind: &K, rows: &[u64], width: usize, i: usize) -> usize
     requires { (length rows.now ≡ 16 * width) × ((width ≤ 32) × (i < 16)) }
-    ensures { Sized (arithmetic kind.now) (cut_row width rows.now i) result }
+    ensures { Sized (K.arithmetic kind.now) (cut_row width rows.now i) result }
 {
     let start = row_start(width, i);
     size(kind, &rows[start..start + width])
@@ -27,8 +27,8 @@ fn row_size<K: Coefficients>(kind: &K, rows: &[u64], width: usize, i: usize) -> 
 // The size in x: one more than the place of the last row that is not zero, or 0.
 pub fn size_x<K: Coefficients>(kind: &K, rows: &[u64], width: usize) -> usize
     requires { (length rows.now ≡ 16 * width) × (width ≤ 32) }
-    ensures codes { SizedX (arithmetic kind.now) width rows.now result }
-    ensures size { SizeX (arithmetic kind.now) width rows.now result }
+    ensures codes { SizedX (K.arithmetic kind.now) width rows.now result }
+    ensures size { SizeX (K.arithmetic kind.now) width rows.now result }
 {
     let mut n: usize = 16;
     while n > 0 && row_size(kind, rows, width, n - 1) == 0 {
@@ -40,8 +40,8 @@ pub fn size_x<K: Coefficients>(kind: &K, rows: &[u64], width: usize) -> usize
 // The size in y: the largest size of a row.
 pub fn size_y<K: Coefficients>(kind: &K, rows: &[u64], width: usize) -> usize
     requires { (length rows.now ≡ 16 * width) × (width ≤ 32) }
-    ensures codes { SizedY (arithmetic kind.now) width rows.now result }
-    ensures size { SizeY (arithmetic kind.now) width rows.now result }
+    ensures codes { SizedY (K.arithmetic kind.now) width rows.now result }
+    ensures size { SizeY (K.arithmetic kind.now) width rows.now result }
 {
     let mut largest: usize = 0;
     for i in 0..16usize {

@@ -21,8 +21,8 @@ fn take_multiple<K: Coefficients>(
     factor: &[u64],
 ) -> bool
     requires lengths { (length rest.old ≡ 16 * width) × ((length by.now ≡ 16 * width) × (width ≤ 32)) }
-    requires sizes { (0 < count) × ((shift + count ≤ 16) × (SizedX (arithmetic kind.now) width by.now count)) }
-    ensures { Taking (arithmetic kind.now) width rest.old by.now shift factor.now rest.new result }
+    requires sizes { (0 < count) × ((shift + count ≤ 16) × (SizedX (K.arithmetic kind.now) width by.now count)) }
+    ensures { Taking (K.arithmetic kind.now) width rest.old by.now shift factor.now rest.new result }
 {
     let mut room = [0u64; 512];
     let product = &mut room[..by.len()];
@@ -46,8 +46,8 @@ fn cut_top<K: Coefficients>(
     quotient: &mut [u64],
 ) -> Result<(), DivisionFault>
     requires lengths { (length rest.old ≡ 16 * width) × ((length by.now ≡ 16 * width) × ((length quotient.old ≡ 16 * width) × (width ≤ 32))) }
-    requires sizes { (0 < count) × ((shift + count ≤ 16) × (SizedX (arithmetic kind.now) width by.now count)) }
-    ensures { CutTop (arithmetic kind.now) width rest.old by.now shift count quotient.old rest.new quotient.new result }
+    requires sizes { (0 < count) × ((shift + count ≤ 16) × (SizedX (K.arithmetic kind.now) width by.now count)) }
+    ensures { CutTop (K.arithmetic kind.now) width rest.old by.now shift count quotient.old rest.new quotient.new result }
 {
     let top = row_start(width, shift + count - 1);
     let lead = row_start(width, count - 1);
@@ -75,7 +75,7 @@ pub fn divide_table<K: Coefficients>(
     quotient: &mut [u64],
 ) -> Result<(), DivisionFault>
     requires { (length rest.old ≡ 16 * width) × ((length by.now ≡ 16 * width) × ((width ≤ 32) × (length quotient.old ≡ 16 * width))) }
-    ensures { DividedTable (arithmetic kind.now) width rest.old by.now rest.new quotient.new result }
+    ensures { DividedTable (K.arithmetic kind.now) width rest.old by.now rest.new quotient.new result }
 {
     clear(kind, quotient);
     let count = size_x(kind, by, width);

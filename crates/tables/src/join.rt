@@ -15,7 +15,7 @@ pub fn join<K: Coefficients>(
     joined: &mut [u64],
 ) -> Result<(), ReciprocalFault>
     requires { (length points.now ≤ 31) × ((length rows.now ≡ 16 * length points.now) × (length joined.old ≡ 512)) }
-    ensures { Joining (arithmetic kind.now) points.now rows.now joined.new result }
+    ensures { Joining (K.arithmetic kind.now) points.now rows.now joined.new result }
 {
     clear(kind, joined);
     // The product of y - α over the points so far.
@@ -37,7 +37,7 @@ fn correct<K: Coefficients>(
     joined: &mut [u64],
 ) -> Result<(), ReciprocalFault>
     requires { (length master.now ≡ 32) × ((length values.now ≡ 16) × (length joined.old ≡ 512)) }
-    ensures { Correction (arithmetic kind.now) master.now point values.now joined.old joined.new result }
+    ensures { Correction (K.arithmetic kind.now) master.now point values.now joined.old joined.new result }
 {
     let inverse = kind.reciprocal(horner(kind, master, point))?;
     for i in 0..16usize {
@@ -57,7 +57,7 @@ fn correct_row<K: Coefficients>(
     row: &mut [u64],
 )
     requires { (length master.now ≡ 32) × (length row.old ≡ 32) }
-    ensures { Corrects (arithmetic kind.now) master.now point inverse value row.old row.new }
+    ensures { Corrects (K.arithmetic kind.now) master.now point inverse value row.old row.new }
 {
     let excess = kind.sub(horner(kind, row, point), value);
     lessen(kind, row, 0, kind.mul(excess, inverse), master, 32);
@@ -65,7 +65,7 @@ fn correct_row<K: Coefficients>(
 
 // Multiplies `master` by y - `point`.
 fn grow<K: Coefficients>(kind: &K, master: &mut [u64], point: u64)
-    ensures { Grows (arithmetic kind.now) master.old point master.new }
+    ensures { Grows (K.arithmetic kind.now) master.old point master.new }
 {
     let mut below = kind.zero();
     for j in 0..master.len() {

@@ -9,7 +9,7 @@ use polynomials::gcd::gcd_row;
 // Copies the last row that is not zero into `row`, or zeros where there is none.
 pub fn lead_row<K: Coefficients>(kind: &K, rows: &[u64], width: usize, row: &mut [u64])
     requires { (length rows.now ≡ 16 * width) × ((width ≤ 32) × (length row.old ≡ width)) }
-    ensures { LeadRow (arithmetic kind.now) width rows.now row.new }
+    ensures { LeadRow (K.arithmetic kind.now) width rows.now row.new }
 {
     let n = size_x(kind, rows, width);
     let mut last: usize = 0;
@@ -29,7 +29,7 @@ pub fn lead_gcd<K: Coefficients>(
     shared: &mut [u64],
 ) -> Result<usize, ReciprocalFault>
     requires { (length a.now ≡ 16 * width) × ((length b.now ≡ 16 * width) × ((width ≤ 32) × (length shared.old ≡ width))) }
-    ensures { SharedLeads (arithmetic kind.now) width a.now b.now shared.new result }
+    ensures { SharedLeads (K.arithmetic kind.now) width a.now b.now shared.new result }
 {
     lead_row(kind, a, width, shared);
     let mut room = [0u64; 32];

@@ -17,7 +17,7 @@ pub fn multiply_rows<K: Coefficients>(
     product: &mut [u64],
 ) -> bool
     requires { (length rows.now ≡ 16 * width) × ((width ≤ 32) × (length product.old ≡ length rows.now)) }
-    ensures { ManyTimes (arithmetic kind.now) width rows.now by.now product.new result }
+    ensures { ManyTimes (K.arithmetic kind.now) width rows.now by.now product.new result }
 {
     clear(kind, product);
     for i in 0..16usize {
@@ -37,7 +37,7 @@ pub fn make_monic_rows<K: Coefficients>(
     width: usize,
 ) -> Result<usize, ReciprocalFault>
     requires { (length rows.old ≡ 16 * width) × (width ≤ 32) }
-    ensures { MonicRows (arithmetic kind.now) width rows.old rows.new result }
+    ensures { MonicRows (K.arithmetic kind.now) width rows.old rows.new result }
 {
     let n = size_x(kind, rows, width);
     if n == 0 {

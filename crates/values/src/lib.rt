@@ -1,4 +1,6 @@
 //! Values of polynomials in one and two unknowns, computed on lists of codes: gcd, content, image, exact quotient, join. They are definitions for contracts to cite, proved to be what the theory says, over every kind of coefficient.
+#![tactic(auto)]
+
 ghost use Rattle.values.specs.Theorems.{Values};
 ghost use Rattle.values.specs.Examples.{Examples};
 
@@ -6,7 +8,7 @@ use coefficients::kind::Coefficients;
 
 // What is computed on lists of codes is what the theory says of the polynomials that they mean, and nothing else is.
 pub fn values_stand<K: Coefficients>(kind: &K)
-    ensures { Values (arithmetic kind.now) }
+    ensures { Values (K.arithmetic kind.now) }
 {}
 
 // The definitions compute.

@@ -2,4 +2,4 @@ use Rattle.algebra.proofs.OneUnknown.{degrees}
 use Rattle.algebra.proofs.degrees_stand.Goals as goal
 
 pub returns : goal.returns
-returns g c = degrees g.S-as-Scalar.field
+returns g c = degrees g.S.Scalar.field

@@ -2,4 +2,4 @@ use Rattle.algebra.proofs.OneUnknown.{division}
 use Rattle.algebra.proofs.division_stands.Goals as goal
 
 pub returns : goal.returns
-returns g c = division g.S-as-Scalar.field
+returns g c = division g.S.Scalar.field

@@ -6,8 +6,8 @@ use Rattle.coefficients.specs.BelowLemmas.{guarded_left, guarded_right}
 use Rattle.coefficients.proofs.Late.{square_small, late_in, late_out, less_square}
 use Rattle.coefficients.proofs.residues.gather.Goals as goal
 
-pub overflow-add-more : goal.overflow-add-more
-overflow-add-more c =
+pub overflow_add-more : goal.overflow_add-more
+overflow_add-more c =
     let small = square_small c.args.modulus c.requires.1.0 in
     let less = mul-lt c.args.x c.args.y c.args.modulus c.args.modulus c.if-x-modulus.true c.if-y-modulus.true in
     let bound : c.args.total + c.args.x * c.args.y < 2 ^ 64 = omega arith in

@@ -6,8 +6,8 @@ use Rattle.steps.proofs.answer.narrow.Goals as goal
 pub loop-i-init : goal.loop-i-init
 loop-i-init c = copied_none c.args.rows.now _ (length-replicate {A = ℕ} 256 0)
 
-pub slice-bounds-table-end : goal.slice-bounds-table-end
-slice-bounds-table-end c = let e = c.loop-i.invariant.long in omega arith
+pub slice_bounds-table-end : goal.slice_bounds-table-end
+slice_bounds-table-end c = let e = c.loop-i.invariant.long in omega arith
 
 pub loop-i-preserved : goal.loop-i-preserved
 loop-i-preserved c =

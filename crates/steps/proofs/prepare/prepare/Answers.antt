@@ -19,14 +19,14 @@ returns-in-err-lead-gcd g c =
     let p = err_from_is_err_and c.from-residual-in-err-lead-gcd.result c.from-residual-in-err-lead-gcd.ensures.1 in
     rw (p.1, p.2) λ ha hb na nb. lead_refused _ _ _ _ c.in-err-lead-gcd.ensures (c.in-ok-left.ensures.1 ha).rows_in (c.in-ok-right.ensures.1 hb).rows_in
 
-pub overflow-add-height-left : goal.overflow-add-height-left
-overflow-add-height-left g c = let l = c.in-ok-left.ensures.0.in_y in omega (arith, c.size.ensures.within, l)
+pub overflow_add-height-left : goal.overflow_add-height-left
+overflow_add-height-left g c = let l = c.in-ok-left.ensures.0.in_y in omega (arith, c.size.ensures.within, l)
 
-pub overflow-add-height-right : goal.overflow-add-height-right
-overflow-add-height-right g c = let r = c.in-ok-right.ensures.0.in_y in omega (arith, c.size.ensures.within, r)
+pub overflow_add-height-right : goal.overflow_add-height-right
+overflow_add-height-right g c = let r = c.in-ok-right.ensures.0.in_y in omega (arith, c.size.ensures.within, r)
 
-pub overflow-add-closing : goal.overflow-add-closing
-overflow-add-closing g c =
+pub overflow_add-closing : goal.overflow_add-closing
+overflow_add-closing g c =
     let l = c.in-ok-left.ensures.0.in_y in
     let r = c.in-ok-right.ensures.0.in_y in
     omega (arith, c.size.ensures.within, l, r)
