@@ -13,11 +13,11 @@ loop-i-preserved g c =
     let row = c.loop-i.row in
     let i = c.loop-i.i in
     let v = c.dot.result in
-    let ps = c.fill-powers.new.powers in
+    let ps = c.fill_powers.new.powers in
     let width : (16 * i + 16) - 16 * i ≡ 16 = omega arith in
     let within : i < length row = omega arith in
     let part = take ((16 * i + 16) - 16 * i) (drop (16 * i) t) in
-    let whole : Valued K part α v = valued_by (g.met.K.Coefficients.laws c.args.kind.now) part ps α v (simp length-take (omega arith)) c.fill-powers.ensures c.dot.ensures in
+    let whole : Valued K part α v = valued_by (g.met.K.Coefficients.laws c.args.kind.now) part ps α v (simp length-take (omega arith)) c.fill_powers.ensures c.dot.ensures in
     let told : Valued K (row_of t i) α v = subst (λ (n : ℕ). Valued K (take n (drop (16 * i) t)) α v) width whole in
     below_more (λ k. Valued K (row_of t k) α (get_or (set row i v) k 0)) i
     (λ k h. let other : k ≢ i = omega arith in subst (λ (n : ℕ). Valued K (row_of t k) α n) (sym (get_or-set_other row i k v 0 other)) (c.loop-i.invariant k h))

@@ -9,18 +9,18 @@ returns-then-n-eq0 g c h =
     let s = subst (λ (n : ℕ). Sized (g.K.Coefficients.arithmetic c.args.kind.now) c.args.row.now n) c.if-n-eq0.true c.size-n.ensures in
     (h, s, zero_normal (g.met.K.Coefficients.laws c.args.kind.now) c.args.row.now h s)
 
-pub returns-in-err-inverse : goal.returns-in-err-inverse
-returns-in-err-inverse g c =
-    let p = err_from_is_err_and c.from-residual.result c.from-residual.ensures.1 in
-    rw (p.1, p.2) (refl, (c.size-n.result, omega arith, c.size-n.ensures, c.in-err-inverse.ensures))
+pub returns-in_err-inverse : goal.returns-in_err-inverse
+returns-in_err-inverse g c =
+    let p = err_from_is_err_and c.from_residual.result c.from_residual.ensures.1 in
+    rw (p.1, p.2) (refl, (c.size-n.result, omega arith, c.size-n.ensures, c.in_err-inverse.ensures))
 
 pub returns : goal.returns
 returns g c h =
     let lw = g.met.K.Coefficients.laws c.args.kind.now in
     let row = c.args.row.now in
     let n = c.size-n.result in
-    let i = c.in-ok-inverse.inverse in
-    let iv = c.in-ok-inverse.ensures in
+    let i = c.in_ok-inverse.inverse in
+    let iv = c.in_ok-inverse.ensures in
     let len : length c.scale.new.row ≡ length row = omega arith in (
       scaled_inside lw row c.scale.new.row n i h c.size-n.ensures iv len c.scale.ensures,
       scaled_sized lw row c.scale.new.row n i h c.size-n.ensures iv len c.scale.ensures,

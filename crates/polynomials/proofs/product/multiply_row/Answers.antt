@@ -4,10 +4,10 @@ use Rattle.polynomials.proofs.Inverse.{sized_once}
 use Rattle.polynomials.proofs.Products.{Multiplying, multiplying_none, multiplying_more, multiplied, multiplied_zero}
 use Rattle.polynomials.proofs.product.multiply_row.Goals as goal
 
-pub returns-then-not-has-room : goal.returns-then-not-has-room
-returns-then-not-has-room g c =
+pub returns-then-not-has_room : goal.returns-then-not-has_room
+returns-then-not-has_room g c =
     let K = g.K.Coefficients.arithmetic c.args.kind.now in
-    let told = c.if-not-has-room.ensures in (
+    let told = c.if-not-has_room.ensures in (
       refl,
       λ m n s t.
           let e = sized_once K c.args.a.now m c.size-terms.result s c.size-terms.ensures in
@@ -27,7 +27,7 @@ loop-i-init g c = multiplying_none (g.K.Coefficients.arithmetic c.args.kind.now)
 pub loop-i-preserved : goal.loop-i-preserved
 loop-i-preserved g c =
     let K = g.K.Coefficients.arithmetic c.args.kind.now in
-    let room = c.if-not-has-room.ensures (omega arith) (omega arith) in
+    let room = c.if-not-has_room.ensures (omega arith) (omega arith) in
     let w = c.size-terms.ensures.within in
     multiplying_more K (g.met.K.Coefficients.laws c.args.kind.now) c.args.a.now c.args.b.now c.loop-i.product c.lessen.new.acc c.loop-i.i c.size-count.result c.sub-negative.result
     (omega arith) (omega arith) (omega arith) c.size-count.ensures (c.sub-negative.ensures ∙ ap (λ z. K.difference z (get_or c.args.a.now c.loop-i.i 0)) c.zero.ensures) c.lessen.ensures c.loop-i.invariant

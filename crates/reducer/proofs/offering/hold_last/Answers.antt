@@ -27,4 +27,4 @@ returns-in-Blocked g c a b t =
     let ld : length j.divisors ≡ 496 = search rules in
     let ll : length j.lefts ≡ 496 = search rules in
     let lr : length j.rights ≡ 496 = search rules in
-    blocked_void (g.met.K.Coefficients.laws c.args.kind.now) a b j c.args.degree t c.requires.0 j.stored few ld ll lr c.make-void.new.job c.in-Blocked.fault c.named-element.result c.make-void.result c.in-Blocked.ensures c.named-element.ensures c.make-void.ensures.answer c.make-void.ensures.state c.make-void.ensures.standing
+    blocked_void (g.met.K.Coefficients.laws c.args.kind.now) a b j c.args.degree t c.requires.0 j.stored few ld ll lr c.make_void.new.job c.in-Blocked.fault c.named_element.result c.make_void.result c.in-Blocked.ensures c.named_element.ensures c.make_void.ensures.answer c.make_void.ensures.state c.make_void.ensures.standing

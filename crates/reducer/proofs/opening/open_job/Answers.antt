@@ -3,13 +3,13 @@ use Rattle.reducer.proofs.opening.open_job.Goals as goal
 
 pub prepare-requires : goal.prepare-requires
 prepare-requires g c =
-    let t = tables (g.met.K.Coefficients.laws c.args.kind.now) c.args.a.now c.args.b.now c.in-default.ensures in
+    let t = tables (g.met.K.Coefficients.laws c.args.kind.now) c.args.a.now c.args.b.now c.in_default.ensures in
     (t.A_long, t.B_long)
 
 pub returns-in-Ok : goal.returns-in-Ok
 returns-in-Ok g c =
     let laws = g.met.K.Coefficients.laws c.args.kind.now in
-    let o = c.in-default.ensures in
+    let o = c.in_default.ensures in
     let w = c.in-Ok.workings in
     let p = c.in-Ok.ensures in
     record {
@@ -20,10 +20,10 @@ returns-in-Ok g c =
 pub returns-in-Err-prepare : goal.returns-in-Err-prepare
 returns-in-Err-prepare g c =
     let laws = g.met.K.Coefficients.laws c.args.kind.now in
-    let o = c.in-default.ensures in
+    let o = c.in_default.ensures in
     let e = c.in-Err-prepare.fault in
     let f = c.in-Err-prepare.ensures in
     record {
-      opened = voided_opened laws c.args.a.now c.args.b.now o e f c.named-element.result c.named-element.ensures c.refuse-in-Err-prepare.result c.refuse-in-Err-prepare.ensures;
-      sound = voided_sound laws c.args.a.now c.args.b.now o e f c.named-element.result c.named-element.ensures c.refuse-in-Err-prepare.result c.refuse-in-Err-prepare.ensures;
+      opened = voided_opened laws c.args.a.now c.args.b.now o e f c.named_element.result c.named_element.ensures c.refuse-in-Err-prepare.result c.refuse-in-Err-prepare.ensures;
+      sound = voided_sound laws c.args.a.now c.args.b.now o e f c.named_element.result c.named_element.ensures c.refuse-in-Err-prepare.result c.refuse-in-Err-prepare.ensures;
     }

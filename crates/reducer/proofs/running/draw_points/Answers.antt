@@ -13,12 +13,12 @@ returns-in-Some g c a b sound =
 pub drawing_preserved : goal.drawing_preserved
 drawing_preserved g c =
     let K = g.K.Coefficients.arithmetic c.args.kind.now in
-    let fewer = drawn_fewer (state_of c.drawing.job) c.drawing.drawn c.args.draws c.in-default.ensures in (
+    let fewer = drawn_fewer (state_of c.drawing.job) c.drawing.drawn c.args.draws c.in_default.ensures in (
       omega (arith, c.drawing.invariant.0),
       λ a b sound.
           let (going, still) = c.drawing.invariant.1 a b sound in
-          let (offered, now) = c.offer-point.ensures a b still in
-          (going_more K a b c.args.draws _ _ (state_of c.drawing.job) (state_of c.offer-point.new.job) c.drawing.drawn c.in-Some-draw.point c.offer-point.result (g.S.Source.waiting c.drawing.source) (g.S.Source.waiting c.draw.new.self) c.in-default.ensures c.in-Some-draw.ensures offered going, now),
+          let (offered, now) = c.offer_point.ensures a b still in
+          (going_more K a b c.args.draws _ _ (state_of c.drawing.job) (state_of c.offer_point.new.job) c.drawing.drawn c.in-Some-draw.point c.offer_point.result (g.S.Source.waiting c.drawing.source) (g.S.Source.waiting c.draw.new.self) c.in_default.ensures c.in-Some-draw.ensures offered going, now),
     )
 
 pub returns-in-None : goal.returns-in-None
@@ -28,4 +28,4 @@ returns-in-None g c a b sound =
     let stored = j.stored in
     let few = j.few in
     let (going, still) = c.drawing.invariant.1 a b sound in
-    (going_empty K a b c.args.draws _ _ (state_of j) c.drawing.drawn (g.S.Source.waiting c.drawing.source) (g.S.Source.waiting c.draw.new.self) j.counts c.in-default.ensures c.in-None.ensures (counts_of j (omega arith)) going, still)
+    (going_empty K a b c.args.draws _ _ (state_of j) c.drawing.drawn (g.S.Source.waiting c.drawing.source) (g.S.Source.waiting c.draw.new.self) j.counts c.in_default.ensures c.in-None.ensures (counts_of j (omega arith)) going, still)

@@ -15,5 +15,5 @@ not_settled (Void r) n e = let z : ◌≡◌ {A = ℕ} 0 1 = cc in omega arith
 pub returns : goal.returns
 returns g c a b sound =
     let K = g.K.Coefficients.arithmetic c.args.kind.now in
-    let (drawing, now) = c.draw-points.ensures a b sound in
-    (runs_drawn K a b (state_of c.args.job.now) c.args.draws _ _ (not_settled c.args.job.now.standing c.in-default.not-Settled) drawing, now)
+    let (drawing, now) = c.draw_points.ensures a b sound in
+    (runs_drawn K a b (state_of c.args.job.now) c.args.draws _ _ (not_settled c.args.job.now.standing c.in_default.not-Settled) drawing, now)

@@ -12,7 +12,7 @@ slice_bounds-table-end c = let e = c.loop-i.invariant.long in omega arith
 pub loop-i-preserved : goal.loop-i-preserved
 loop-i-preserved c =
     let i = c.loop-i.i in
-    copied_more c.args.rows.now c.loop-i.table c.copy-from-slice.new.self i ((16 * i + 16) - 16 * i) (omega arith) (omega arith) (omega arith) c.copy-from-slice.ensures.after c.loop-i.invariant
+    copied_more c.args.rows.now c.loop-i.table c.copy_from_slice.new.self i ((16 * i + 16) - 16 * i) (omega arith) (omega arith) (omega arith) c.copy_from_slice.ensures.after c.loop-i.invariant
 
 pub returns : goal.returns
 returns c = copied_all c.args.rows.now c.loop-i.table c.loop-i.i (omega arith) c.loop-i.invariant

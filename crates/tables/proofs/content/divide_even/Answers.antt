@@ -5,10 +5,10 @@ use Rattle.tables.proofs.Sizes.{sized_zero}
 use Rattle.tables.proofs.Evenly.{divisor_nonzero, even_is, uneven_is}
 use Rattle.tables.proofs.content.divide_even.Goals as goal
 
-pub returns-in-err-divide-row : goal.returns-in-err-divide-row
-returns-in-err-divide-row g c =
-    let p = err_from_is_err_and c.from-residual.result c.from-residual.ensures.1 in
-    let told = c.in-err-divide-row.ensures in
+pub returns-in_err-divide_row : goal.returns-in_err-divide_row
+returns-in_err-divide_row g c =
+    let p = err_from_is_err_and c.from_residual.result c.from_residual.ensures.1 in
+    let told = c.in_err-divide_row.ensures in
     rw (p.1, p.2) (told.0, told.2)
 
 pub returns-then-size-eq0 : goal.returns-then-size-eq0
@@ -18,7 +18,7 @@ returns-then-size-eq0 g c =
     let by = c.args.by.now in
     let rest = c.divide_row.new.rest in
     let quotient = c.divide_row.new.quotient in
-    let d : Division K row by c.args.quotient.now rest quotient (Ok tt) = subst (λ (l : List ℕ). Division K l by c.args.quotient.now rest quotient (Ok tt)) c.copy-from-slice.ensures.after c.in-ok-divide-row.ensures in
+    let d : Division K row by c.args.quotient.now rest quotient (Ok tt) = subst (λ (l : List ℕ). Division K l by c.args.quotient.now rest quotient (Ok tt)) c.copy_from_slice.ensures.after c.in_ok-divide_row.ensures in
     λ hf hg.
     let told = d hf hg in
     (told.0, λ lw. (divisor_nonzero lw row by quotient rest (told.2 lw), even_is lw row by quotient rest (told.2 lw) (sized_zero K rest c.size.result c.size.ensures c.if-size-eq0.true)))
@@ -30,7 +30,7 @@ returns-else-size-eq0 g c =
     let by = c.args.by.now in
     let rest = c.divide_row.new.rest in
     let quotient = c.divide_row.new.quotient in
-    let d : Division K row by c.args.quotient.now rest quotient (Ok tt) = subst (λ (l : List ℕ). Division K l by c.args.quotient.now rest quotient (Ok tt)) c.copy-from-slice.ensures.after c.in-ok-divide-row.ensures in
+    let d : Division K row by c.args.quotient.now rest quotient (Ok tt) = subst (λ (l : List ℕ). Division K l by c.args.quotient.now rest quotient (Ok tt)) c.copy_from_slice.ensures.after c.in_ok-divide_row.ensures in
     λ hf hg.
     let told = d hf hg in
     (told.0, λ lw. (divisor_nonzero lw row by quotient rest (told.2 lw), uneven_is lw row by quotient rest (told.2 lw) c.size.result told.1 c.size.ensures c.if-size-eq0.false))

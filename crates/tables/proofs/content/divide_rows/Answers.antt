@@ -11,29 +11,29 @@ loop-i-preserved g c =
     let K = g.K.Coefficients.arithmetic c.args.kind.now in
     let w = c.args.width in
     let i = c.loop-i.i in
-    let s = c.row-start-start.result in
+    let s = c.row_start-start.result in
     let q = c.loop-i.quotient in
-    let y = c.divide-even.new.quotient in
+    let y = c.divide_even.new.quotient in
     let fits : s + w ≤ length q = omega arith in
-    let long : length y ≡ w = c.divide-even.auto.quotient ∙ part_length w s q fits in
-    divided_more K w c.args.rows.now c.args.by.now q i s (s + w - s) y c.row-start-start.ensures.place fits long c.loop-i.invariant
-    (even_parts K w i s c.args.rows.now c.args.by.now q y (Ok tt) c.row-start-start.ensures.place c.in-ok-divide-even.ensures)
+    let long : length y ≡ w = c.divide_even.auto.quotient ∙ part_length w s q fits in
+    divided_more K w c.args.rows.now c.args.by.now q i s (s + w - s) y c.row_start-start.ensures.place fits long c.loop-i.invariant
+    (even_parts K w i s c.args.rows.now c.args.by.now q y (Ok tt) c.row_start-start.ensures.place c.in_ok-divide_even.ensures)
 
-pub returns-in-err-divide-even : goal.returns-in-err-divide-even
-returns-in-err-divide-even g c =
+pub returns-in_err-divide_even : goal.returns-in_err-divide_even
+returns-in_err-divide_even g c =
     let K = g.K.Coefficients.arithmetic c.args.kind.now in
     let w = c.args.width in
     let i = c.loop-i.i in
-    let s = c.row-start-start.result in
+    let s = c.row_start-start.result in
     let q = c.loop-i.quotient in
-    let y = c.divide-even.new.quotient in
-    let e = c.in-err-divide-even.field-0.0 in
+    let y = c.divide_even.new.quotient in
+    let e = c.in_err-divide_even.field-0.0 in
     let fits : s + w ≤ length q = omega arith in
-    let long : length y ≡ w = c.divide-even.auto.quotient ∙ part_length w s q fits in
-    let p = err_from_is_err_and c.from-residual.result c.from-residual.ensures.1 in
+    let long : length y ≡ w = c.divide_even.auto.quotient ∙ part_length w s q fits in
+    let p = err_from_is_err_and c.from_residual.result c.from_residual.ensures.1 in
     rw (p.1, p.2)
-    (divided_refused K w c.args.rows.now c.args.by.now q i s (s + w - s) y c.row-start-start.ensures.place fits long c.loop-i.invariant e
-    (even_parts K w i s c.args.rows.now c.args.by.now q y (Err e) c.row-start-start.ensures.place c.in-err-divide-even.ensures))
+    (divided_refused K w c.args.rows.now c.args.by.now q i s (s + w - s) y c.row_start-start.ensures.place fits long c.loop-i.invariant e
+    (even_parts K w i s c.args.rows.now c.args.by.now q y (Err e) c.row_start-start.ensures.place c.in_err-divide_even.ensures))
 
 pub returns : goal.returns
 returns g c = divided_all (g.K.Coefficients.arithmetic c.args.kind.now) c.args.width c.args.rows.now c.args.by.now c.loop-i.quotient c.loop-i.i c.requires.0 (omega arith) (omega arith) c.loop-i.invariant

@@ -5,5 +5,5 @@ use Rattle.tables.proofs.content.gather_row.Goals as goal
 
 pub returns : goal.returns
 returns g c =
-    let same = c.copy-from-slice.ensures.after ∙ part_row c.args.width c.args.i c.row-start-start.result c.args.rows.now c.row-start-start.ensures.place in
+    let same = c.copy_from_slice.ensures.after ∙ part_row c.args.width c.args.i c.row_start-start.result c.args.rows.now c.row_start-start.ensures.place in
     (c.gcd_row.new.b, subst (λ (l : List ℕ). Common (g.K.Coefficients.arithmetic c.args.kind.now) c.args.content.now l c.gcd_row.new.a c.gcd_row.new.b c.gcd_row.result) same c.gcd_row.ensures)

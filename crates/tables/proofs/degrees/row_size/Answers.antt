@@ -6,4 +6,4 @@ use Rattle.tables.proofs.degrees.row_size.Goals as goal
 pub returns : goal.returns
 returns g c =
     subst (λ (l : List ℕ). Sized (g.K.Coefficients.arithmetic c.args.kind.now) l c.size.result)
-    (part_row c.args.width c.args.i c.row-start-start.result c.args.rows.now c.row-start-start.ensures.place) c.size.ensures
+    (part_row c.args.width c.args.i c.row_start-start.result c.args.rows.now c.row_start-start.ensures.place) c.size.ensures

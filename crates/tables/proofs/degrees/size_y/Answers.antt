@@ -8,7 +8,7 @@ loop-i-init g c = largest_none (g.K.Coefficients.arithmetic c.args.kind.now) c.a
 
 pub loop-i-preserved : goal.loop-i-preserved
 loop-i-preserved g c =
-    largest_more (g.K.Coefficients.arithmetic c.args.kind.now) c.args.width c.args.rows.now c.loop-i.i c.loop-i.largest c.row-size-n.result c.if-n-largest.largest c.loop-i.invariant c.row-size-n.ensures
+    largest_more (g.K.Coefficients.arithmetic c.args.kind.now) c.args.width c.args.rows.now c.loop-i.i c.loop-i.largest c.row_size-n.result c.if-n-largest.largest c.loop-i.invariant c.row_size-n.ensures
     (elim c.if-n-largest.branch [ then-n-largest w ↦ inl (w.if-n-largest.true, w.largest-is) | else-n-largest w ↦ inr (w.if-n-largest.false, w.largest-is) ])
 
 pub returns : goal.returns

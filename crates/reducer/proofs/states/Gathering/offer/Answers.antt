@@ -12,7 +12,7 @@ returns g c =
     let K = g.K.Coefficients.arithmetic c.args.self.now.kind in
     record {
       kind = refl;
-      offered = λ a b sound. (c.offer-point.ensures a b sound).0;
-      sound = λ a b sound. (c.offer-point.ensures a b sound).1;
-      law = λ a b sound. after K a b (state_of c.args.self.now.job) (offering c.args.point) (state_of c.offer-point.new.job) (λ only. ap (λ (x : State × Result Answer Refusal). x.0) ((c.offer-point.ensures a b sound).0.over_field only));
+      offered = λ a b sound. (c.offer_point.ensures a b sound).0;
+      sound = λ a b sound. (c.offer_point.ensures a b sound).1;
+      law = λ a b sound. after K a b (state_of c.args.self.now.job) (offering c.args.point) (state_of c.offer_point.new.job) (λ only. ap (λ (x : State × Result Answer Refusal). x.0) ((c.offer_point.ensures a b sound).0.over_field only));
     }

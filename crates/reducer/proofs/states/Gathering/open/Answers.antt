@@ -3,4 +3,4 @@ use Rattle.reducer.proofs.Calls.{ahead}
 use Rattle.reducer.proofs.states.Gathering.open.Goals as goal
 
 pub returns : goal.returns
-returns g c = record { kind = refl; opened = c.open-job-job.ensures.opened; sound = c.open-job-job.ensures.sound; law = ahead (g.K.Coefficients.arithmetic c.args.kind) c.args.a.now c.args.b.now }
+returns g c = record { kind = refl; opened = c.open_job-job.ensures.opened; sound = c.open_job-job.ensures.sound; law = ahead (g.K.Coefficients.arithmetic c.args.kind) c.args.a.now c.args.b.now }

@@ -9,7 +9,7 @@ returns g c =
     let K = g.K.Coefficients.arithmetic c.args.self.now.kind in
     record {
       kind = refl;
-      ran = λ a b sound. (c.run-job.ensures a b sound).0;
-      sound = λ a b sound. (c.run-job.ensures a b sound).1;
-      law = λ a b sound. after K a b (state_of c.args.self.now.job) (running (g.S.Source.waiting c.args.source.now) c.args.draws) (state_of c.run-job.new.job) (λ only. ap (λ (x : Outcome). x.state) ((c.run-job.ensures a b sound).0.over_field only));
+      ran = λ a b sound. (c.run_job.ensures a b sound).0;
+      sound = λ a b sound. (c.run_job.ensures a b sound).1;
+      law = λ a b sound. after K a b (state_of c.args.self.now.job) (running (g.S.Source.waiting c.args.source.now) c.args.draws) (state_of c.run_job.new.job) (λ only. ap (λ (x : Outcome). x.state) ((c.run_job.ensures a b sound).0.over_field only));
     }
