@@ -3,7 +3,7 @@ use Rattle.tables.proofs.Growing.{growing_none, growing_more, grown}
 use Rattle.tables.proofs.join.grow.Goals as goal
 
 pub loop-j-init : goal.loop-j-init
-loop-j-init g c = growing_none (g.K.Coefficients.arithmetic c.args.kind.now) c.args.master.now c.args.point c.zero_below.result c.zero_below.ensures
+loop-j-init g c = growing_none (g.K.Coefficients.arithmetic c.args.kind.now) c.args.master.now c.args.point c.zero-below.result c.zero-below.ensures
 
 pub loop-j-preserved : goal.loop-j-preserved
 loop-j-preserved g c =
