@@ -139,16 +139,16 @@ module _ {K : Arithmetic} (laws : Laws K) (only : IsField K) where
   -- tables of 256 elements with one meaning are equal
   pub same_table : (s t : List ℕ) → Whole K s → Whole K t → table laws s ≡ table laws t → s ≡ t
   same_table s t h k e =
-      let r = table_values.rows_are 16 t (k.long, k.inside) in
-      let q = table_values.rows_are 16 s (h.long, h.inside) in
+      let r = table_values.rows_are t k.long k.inside in
+      let q = table_values.rows_are s h.long h.inside in
       sym (table_values.table_of_rows s h.long) ∙ ap (table_of K) (r.only (rows K s) q.inside (q.has ∙ e)) ∙ table_values.table_of_rows t k.long
 
   module _ (a b : List ℕ) (a_long : length a ≡ 256) (b_long : length b ≡ 256) (a_inside : Inside K a) (b_inside : Inside K b) (p : Prepared F (table laws a) (table laws b)) where
     abbrev rows_A : Unique (TrimmedYx K) (λ r. m₂ r ≡ table laws a) (rows K a)
-    rows_A = table_values.rows_are 16 a (a_long, a_inside)
+    rows_A = table_values.rows_are a a_long a_inside
 
     abbrev rows_B : Unique (TrimmedYx K) (λ r. m₂ r ≡ table laws b) (rows K b)
-    rows_B = table_values.rows_are 16 b (b_long, b_inside)
+    rows_B = table_values.rows_are b b_long b_inside
 
     A_nonzero : ¬ (table laws a ≡ 𝟎)
     A_nonzero = whole_nonzero F p.of_A

@@ -217,7 +217,7 @@ module _ (K : Arithmetic) where
   spread_zeros zero = tt
   spread_zeros (suc n) = append_zeros (pad K 16 []) (spread K n []) (pad_zeros 16) (spread_zeros n)
 
-  cut_zeros : (n : ℕ) (t : List ℕ) → AllZero t → cut K 16 n t ≡ []
+  cut_zeros : (n : ℕ) (t : List ℕ) → AllZero t → cut K n t ≡ []
   cut_zeros zero t h = refl
   cut_zeros (suc n) t h = ap₂ (put (lists O)) (zeros_trim (take 16 t) (take_zeros 16 t h)) (cut_zeros n (drop 16 t) (drop_zeros 16 t h))
 
@@ -230,7 +230,7 @@ module _ {K : Arithmetic} (laws : Laws K) (t : List ℕ) (long : length t ≡ 25
   𝟎 = (poly₂ (elements laws) (element_discrete K)).zero
 
   abbrev rows_are : Unique (TrimmedYx K) (λ a. polynomial₂ laws a ≡ table laws t) (rows K t)
-  rows_are = (values K laws).1.rows_are 16 t (long, inside)
+  rows_are = (values K laws).1.rows_are t long inside
 
   abbrev rows_codes : Codes (lists (lists (codes K))) (poly₂ (elements laws) (element_discrete K)) (TrimmedYx K) (polynomial₂ laws)
   rows_codes = (values K laws).0.polynomials₂_are

@@ -284,7 +284,7 @@ module _ {K : Arithmetic} (laws : Laws K) (only : IsField K) where
   -- Tables of elements.
   module _ (t : List ℕ) (long : length t ≡ 256) (inside : Inside K t) where
     rows_are : Unique (TrimmedYx K) (λ a. m₂ a ≡ table laws t) (rows K t)
-    rows_are = table_values.rows_are 16 t (long, inside)
+    rows_are = table_values.rows_are t long inside
 
     -- the polynomial is not zero, so that there are rows
     pub rows_some : ¬ (table laws t ≡ 𝟎) → ¬ (rows K t ≡ [])
