@@ -1,5 +1,5 @@
 -- What two rows share: the faults that a field never gives.
-use Rattle.std.proofs.Common.{◌≡◌, ℕ, zero, suc, true, false, List, Ok, Err, sym, ap, ◌∙◌, inl, arith}
+use Rattle.std.proofs.Common.{◌≡◌, ℕ, zero, suc, List, Ok, Err, sym, ap, ◌∙◌, inl, arith}
 use Rattle.coefficients.specs.Arithmetic.{Arithmetic, Laws, IsField}
 use Rattle.coefficients.specs.declared.kind.ReciprocalFault.{ReciprocalFault}
 use Rattle.coefficients.specs.declared.kind.ReciprocalFault.TheVariants.{NoReciprocal}
@@ -11,6 +11,7 @@ use Rattle.polynomials.specs.Rows.{Inside, Sized}
 use Rattle.polynomials.specs.Steps.{Common, Stuck, Undivided}
 use Rattle.polynomials.proofs.Meaning.{cleared}
 use Rattle.polynomials.proofs.Inverse.{stuck}
+use Rattle.tables.specs.declared.faults.DivisionFault.{DivisionFault}
 use Rattle.tables.specs.declared.faults.DivisionFault.TheVariants.{Reciprocal, Uneven}
 use Rattle.tables.specs.Content.{Even}
 use Rattle.steps.specs.declared.share.Shares.{Shares}
@@ -37,17 +38,19 @@ lead_refused {K = K} laws a b d rest m n e shared sized told = λ ha hb nonzero.
     go (suc n) s h g only nonzero = let (c, is, t) = stuck K d (suc n) (omega arith) s h e told in t.no_field only
 
 -- over a field the division by what is shared comes out even
-pub left_uneven : {K : Arithmetic} (laws : Laws K) (a b d rest q : List ℕ) (m : ℕ) → Common K a b d rest (Ok m) → Even K a d q false → Sharing K a b (Err Uneven)
-left_uneven laws a b d rest q m shared uneven = λ ha hb nonzero only. let c = shared ha hb in ((uneven ha c.0).1 laws).1 (inl only) (c.3 laws).greatest.left
+pub left_refused : {K : Arithmetic} (laws : Laws K) (a b d rest held q : List ℕ) (m n : ℕ) (e : DivisionFault) → Common K a b d rest (Ok m) → Sized K d n → Even K a d held q (Err e) → Sharing K a b (Err e)
+left_refused laws a b d rest held q m n (Reciprocal e) shared sized told = lead_refused laws a b d rest m n e shared sized told.0
+left_refused laws a b d rest held q m n Uneven shared sized uneven = λ ha hb nonzero only. let c = shared ha hb in ((uneven ha c.0).1 laws).1 (inl only) (c.3 laws).greatest.left
 
-pub right_uneven : {K : Arithmetic} (laws : Laws K) (a b d rest q : List ℕ) (m : ℕ) → Common K a b d rest (Ok m) → Even K b d q false → Sharing K a b (Err Uneven)
-right_uneven laws a b d rest q m shared uneven = λ ha hb nonzero only. let c = shared ha hb in ((uneven hb c.0).1 laws).1 (inl only) (c.3 laws).greatest.right
+pub right_refused : {K : Arithmetic} (laws : Laws K) (a b d rest held q : List ℕ) (m n : ℕ) (e : DivisionFault) → Common K a b d rest (Ok m) → Sized K d n → Even K b d held q (Err e) → Sharing K a b (Err e)
+right_refused laws a b d rest held q m n (Reciprocal e) shared sized told = lead_refused laws a b d rest m n e shared sized told.0
+right_refused laws a b d rest held q m n Uneven shared sized uneven = λ ha hb nonzero only. let c = shared ha hb in ((uneven hb c.0).1 laws).1 (inl only) (c.3 laws).greatest.right
 
-pub sharing : {K : Arithmetic} (a b d rest l r : List ℕ) (m n : ℕ) → Common K a b d rest (Ok m) → Sized K d n → Even K a d l true → Even K b d r true → (s : Shares) → s.size ≡ n → s.common ≡ d → s.left ≡ l → s.right ≡ r → Sharing K a b (Ok s)
-sharing {K = K} a b d rest l r m n shared sized even-A even-B s en ed el er ha hb =
+pub sharing : {K : Arithmetic} (a b d rest held_l held_r l r : List ℕ) (m n : ℕ) (u v : Unit {0}) → Common K a b d rest (Ok m) → Sized K d n → Even K a d held_l l (Ok u) → Even K b d held_r r (Ok v) → (s : Shares) → s.size ≡ n → s.common ≡ d → s.left ≡ l → s.right ≡ r → Sharing K a b (Ok s)
+sharing {K = K} a b d rest held_l held_r l r m n u v shared sized even_a even_b s en ed el er ha hb =
     let c = shared ha hb in
-    let x = even-A ha c.0 in
-    let y = even-B hb c.0 in
+    let x = even_a ha c.0 in
+    let y = even_b hb c.0 in
     rw_in s en ed el er c.0 x.0 y.0 (λ laws. c.3 laws) (λ laws. x.1 laws) (λ laws. y.1 laws)
   where
     rw_in : (s : Shares) → s.size ≡ n → s.common ≡ d → s.left ≡ l → s.right ≡ r → Inside K d → Inside K l → Inside K r → ((laws : Laws K) → MonicGcd laws a b d) → ((laws : Laws K) → ¬ (polynomial laws d ≡ (polynomials laws).zero) × (polynomial laws a ≡ (polynomials laws).mul (polynomial laws d) (polynomial laws l))) →

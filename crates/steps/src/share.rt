@@ -3,7 +3,6 @@ ghost use Rattle.std.specs.Prelude.{◌≡◌, length};
 ghost use Rattle.steps.specs.Share.{Sharing};
 
 use coefficients::kind::Coefficients;
-use polynomials::divide::lead_inverse;
 use polynomials::gcd::gcd_row;
 use polynomials::rows::size;
 use tables::content::divide_even;
@@ -30,15 +29,10 @@ pub fn share<K: Coefficients>(
     let mut rest = *b;
     gcd_row(kind, &mut common, &mut rest)?;
     let count = size(kind, &common);
-    let inverse = lead_inverse(kind, &common, count)?;
     let mut left = [0u64; 16];
-    if !divide_even(kind, a, &common, count, inverse, &mut left) {
-        return Err(DivisionFault::Uneven);
-    }
+    divide_even(kind, a, &common, &mut left)?;
     let mut right = [0u64; 16];
-    if !divide_even(kind, b, &common, count, inverse, &mut right) {
-        return Err(DivisionFault::Uneven);
-    }
+    divide_even(kind, b, &common, &mut right)?;
     Ok(Shares {
         size: count,
         common,
