@@ -10,8 +10,8 @@ returns-in-Some g c a b sound =
     let (going, still) = c.drawing.invariant.1 a b sound in
     (going_stop K a b c.args.draws _ _ (state_of c.drawing.job) c.drawing.drawn (g.S.Source.waiting c.drawing.source) c.in-Some.ending c.in-Some.ensures going, still)
 
-pub drawing_preserved : goal.drawing_preserved
-drawing_preserved g c =
+pub drawing-preserved : goal.drawing-preserved
+drawing-preserved g c =
     let K = g.K.Coefficients.arithmetic c.args.kind.now in
     let fewer = drawn_fewer (state_of c.drawing.job) c.drawing.drawn c.args.draws c.in_default.ensures in (
       omega (arith, c.drawing.invariant.0),
