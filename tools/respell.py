@@ -11,7 +11,7 @@ import sys
 WORD = re.compile(r'[^\s(){}\[\],.;|"`]+')
 HEAD = re.compile(r'\s*((?:abbrev|unfoldable|pub|record|data|ruleset)\s+)*([^\s(){}\[\],.;|:=]+)(?=\s|$|:)')
 # what Rattle names in the files of a function's proof
-MADE = re.compile(r'(loop|returns|invariant|decreases|overflow|slice-bounds|bounds|in-err|in-ok|then|else|if)-|.*-requires(-\d+)?$')
+MADE = re.compile(r'(loop|returns|invariant|decreases|overflow|overflow_\w+|slice-bounds|slice_bounds|bounds|in-err|in-ok|then|else|if)-|.*-(requires|preserved|init|smaller)(-\d+)?$')
 
 
 def own_files():
@@ -65,15 +65,16 @@ def defined(files):
 APART = {'Lead-gcd': 'GcdOfLeads'}
 
 
-def library():
-    """The names that files bring in from elsewhere than this repository's crates."""
-    own = {line.split(':')[0].strip() for line in open('crates.txt') if ':' in line and not line.startswith('#')}
+def crates():
+    return {line.split(':')[0].strip() for line in open('crates.txt') if ':' in line and not line.startswith('#')}
+
+
+def library(text, own):
+    """The names that a file brings in from elsewhere than this repository's crates: there they are the library's."""
     names = set()
-    for name in glob.glob('crates/**/*.antt', recursive=True) + glob.glob('crates/**/*.rt', recursive=True):
-        for path, items in re.findall(r'\buse ([\w.]+)\.\{([^}]*)\}', open(name, encoding='utf-8').read()):
-            parts = path.split('.')
-            if parts[0] == 'Rattle' and parts[1] in own:
-                continue
+    for path, items in re.findall(r'\buse ([\w.]+)\.\{([^}]*)\}', text):
+        parts = path.split('.')
+        if parts[0] != 'Rattle' or parts[1] not in own:
             names.update(item.split(' as ')[0].strip() for item in items.split(','))
     return names
 
@@ -90,11 +91,11 @@ def spelled(word, types):
 def main():
     top, below = own_files()
     words, types = defined(top)
+    words = {w for w in words if not MADE.match(w)}
     more, more_types = defined(below)
     words |= {w for w in more if not MADE.match(w)}
-    words = {w for w in words if not MADE.match(w) or w in defined(top)[0]}
     types |= more_types & words
-    words -= library()
+    own = crates()
     new = {w: spelled(w, types) for w in words}
     there = set()
     for name in top + below:
@@ -110,7 +111,8 @@ def main():
         return
 
     def turn(text):
-        return WORD.sub(lambda m: new.get(m.group(0), m.group(0)), text)
+        kept = library(text, own)
+        return WORD.sub(lambda m: m.group(0) if m.group(0) in kept else new.get(m.group(0), m.group(0)), text)
 
     for name in top + below + glob.glob('crates/*/src/**/*.rt', recursive=True) + glob.glob('crates/*/must-fail/*.edit'):
         old = open(name, encoding='utf-8').read()

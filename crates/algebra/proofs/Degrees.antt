@@ -2,7 +2,7 @@
 use Rattle.std.proofs.Common.{◌≡◌, ℕ, zero, suc, pred, ◌+◌, ◌≤◌, ◌⊎◌, sym, refl, ap, ◌∙◌, ap₂, inl, inr, arith}
 use mathlib.Core.Path.{fun_ext}
 use mathlib.Core.HLevel.{Discrete}
-use Rattle.algebra.specs.Ring.{Ring, ring, add_neg, mul-zero, zero-mul, mul-one}
+use Rattle.algebra.specs.Ring.{Ring, ring, add_neg, mul_zero, zero_mul, mul_one}
 use Rattle.algebra.specs.Divisors.{Divides}
 use Rattle.algebra.specs.Series.{Series, series, const, cons, cons_suc, at_zero, at_one, at_add, at_neg, at_const, at_const_mul}
 use Rattle.algebra.specs.Bounded.{Below, Domain, Any, below_cons, below_less, below_at, below_more, below_const, one_below, lead as lead-mul}
@@ -90,10 +90,10 @@ module _ {E : Type 0} (R : Ring E) (eq : Discrete E) where
   term c m = number R eq c ⊠ power m
 
   pub term_below : (c : E) (m : ℕ) → Below R (suc m) (term c m).0
-  term_below c m k le = coef_scale c (power m) k ∙ ap (λ x. c ⊙ x) (ap (λ f. f k) (of_power m) ∙ power_below m k le) ∙ mul-zero R c
+  term_below c m k le = coef_scale c (power m) k ∙ ap (λ x. c ⊙ x) (ap (λ f. f k) (of_power m) ∙ power_below m k le) ∙ mul_zero R c
 
   pub term_top : (c : E) (m : ℕ) → (term c m).0 m ≡ c
-  term_top c m = coef_scale c (power m) m ∙ ap (λ x. c ⊙ x) (ap (λ f. f m) (of_power m) ∙ power_top m) ∙ mul-one R c
+  term_top c m = coef_scale c (power m) m ∙ ap (λ x. c ⊙ x) (ap (λ f. f m) (of_power m) ∙ power_top m) ∙ mul_one R c
 
   -- a polynomial without its leading term
   pub without_lead : (p : Poly R) (m : ℕ) → Below R (suc m) p.0 → size R (p ⊞ ⊟ term (p.0 m) m) ≤ m
@@ -119,8 +119,8 @@ module _ {E : Type 0} (R : Ring E) (eq : Discrete E) where
     lead_product p q = go (zero? R eq p) (zero? R eq q)
       where
         go : Dec (p ≡ 𝟎) → Dec (q ≡ 𝟎) → lead R (p ⊠ q) ≡ lead R p ⊙ lead R q
-        go (yes z) d = lead_of_zero (p ⊠ q) (ap (λ x. x ⊠ q) z ∙ zero-mul (poly R eq) q) ∙ sym (ap (λ a. a ⊙ lead R q) (lead_of_zero p z) ∙ zero-mul R _)
-        go (no n) (yes z) = lead_of_zero (p ⊠ q) (ap (λ x. p ⊠ x) z ∙ mul-zero (poly R eq) p) ∙ sym (ap (λ a. lead R p ⊙ a) (lead_of_zero q z) ∙ mul-zero R _)
+        go (yes z) d = lead_of_zero (p ⊠ q) (ap (λ x. x ⊠ q) z ∙ zero_mul (poly R eq) q) ∙ sym (ap (λ a. a ⊙ lead R q) (lead_of_zero p z) ∙ zero_mul R _)
+        go (no n) (yes z) = lead_of_zero (p ⊠ q) (ap (λ x. p ⊠ x) z ∙ mul_zero (poly R eq) p) ∙ sym (ap (λ a. lead R p ⊙ a) (lead_of_zero q z) ∙ mul_zero R _)
         go (no n) (no k) =
             let l = leading p n in
             let m = leading q k in

@@ -1,7 +1,7 @@
 -- Divisors, coprime elements and greatest common divisors in a commutative ring.
 use Rattle.std.proofs.Common.{◌≡◌, ◌⊎◌, [], ◌∷◌, sym, refl, ◌∙◌, inl, inr}
 use mathlib.Core.HLevel.{Discrete}
-use Rattle.algebra.specs.Ring.{Ring, ring, combine, one-mul, mul-zero, sub_zero→eq}
+use Rattle.algebra.specs.Ring.{Ring, ring, combine, one_mul, mul_zero, sub_zero→eq}
 use Rattle.algebra.specs.Solver.{by_ring, quoting}
 use Rattle.algebra.specs.Divisors.{Divides, Invertible, Associates, Coprime, Greatest, Combined}
 use Rattle.algebra.specs.Bounded.{Domain, Any}
@@ -70,7 +70,7 @@ module _ {E : Type 0} (R : Ring E) where
   combined_coprime {a} {b} g (w, e) = (w ⊙ g.u, w ⊙ g.v, combine R 𝟙 e (combine R w g.combined (by_ring R (a ∷ b ∷ g.gcd ∷ g.u ∷ g.v ∷ w ∷ []) (search quoting depth 30) tt)))
 
   pub coprime_greatest : {a b : E} → Coprime R a b → Greatest R a b 𝟙
-  coprime_greatest {a} {b} (u, v, e) = combined_greatest e (a, sym (one-mul R a)) (b, sym (one-mul R b))
+  coprime_greatest {a} {b} (u, v, e) = combined_greatest e (a, sym (one_mul R a)) (b, sym (one_mul R b))
 
   pub greatest_coprime : {a b : E} → Combined R a b → Greatest R a b 𝟙 → Coprime R a b
   greatest_coprime g t = combined_coprime g (t.greatest g.gcd g.greatest.left g.greatest.right)
@@ -85,7 +85,7 @@ module _ {E : Type 0} (R : Ring E) where
         go (inr z) = sub_zero→eq R b c z
 
     pub mul_nonzero : {a b : E} → ¬ (a ≡ 𝟘) → ¬ (b ≡ 𝟘) → ¬ (a ⊙ b ≡ 𝟘)
-    mul_nonzero {a} {b} n m e = m (cancel n (e ∙ sym (mul-zero R a)))
+    mul_nonzero {a} {b} n m e = m (cancel n (e ∙ sym (mul_zero R a)))
 
     -- elements that divide one another differ by a unit
     pub associates : {a b : E} → ¬ (a ≡ 𝟘) → Divides R a b → (t : Divides R b a) → Invertible R t.0

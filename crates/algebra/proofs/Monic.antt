@@ -1,7 +1,7 @@
 -- Units and monic elements of a ring and of its polynomials: of the elements that divide one another one is monic.
 use Rattle.std.proofs.Common.{◌≡◌, suc, ◌+◌, ◌≤◌, [], ◌∷◌, sym, ap, ◌∙◌, subst, ap₂, arith}
 use mathlib.Core.HLevel.{Discrete}
-use Rattle.algebra.specs.Ring.{Ring, combine, zero-mul, mul-one, one-mul, mul_comm}
+use Rattle.algebra.specs.Ring.{Ring, combine, zero_mul, mul_one, one_mul, mul_comm}
 use Rattle.algebra.specs.Solver.{by_ring, quoting}
 use Rattle.algebra.specs.Divisors.{Divides, Invertible, Greatest}
 use Rattle.algebra.specs.Series.{at_one}
@@ -28,7 +28,7 @@ greatest_unique N {a} {b} {g} {h} s t m n = N.unique g h m n (t.greatest g s.lef
 pub field_forms : {E : Type 0} (F : Field E) → MonicForms F.ring (λ a. a ≡ F.ring.one)
 field_forms F = record {
   nonzero = λ a e z. F.zero≢one (sym z ∙ e);
-  product = λ a b e f. ap₂ F.ring.mul e f ∙ mul-one F.ring _;
+  product = λ a b e f. ap₂ F.ring.mul e f ∙ mul_one F.ring _;
   unique = λ a b e f p q. e ∙ sym f;
   multiple = λ a n. (F.inv a, (a, sym (F.mul_inv a n) ∙ mul_comm F.ring _ _), F.mul_inv a n);
 }
@@ -47,7 +47,7 @@ module _ {E : Type 0} (R : Ring E) (eq : Discrete E) (D : Domain R Any) (zero≢
   poly_zero≢one e = zero≢one (sym (coef_zero R eq 0) ∙ ap (λ (p : Poly R). p.0 0) e ∙ ap (λ f. f 0) (of_one R eq) ∙ at_one R)
 
   unit_nonzero : (p : Poly R) → Invertible S p → ¬ (p ≡ 𝟎)
-  unit_nonzero p (q, e) z = poly_zero≢one (sym (e ∙ ap (λ x. x ⊠ q) z ∙ zero-mul S q))
+  unit_nonzero p (q, e) z = poly_zero≢one (sym (e ∙ ap (λ x. x ⊠ q) z ∙ zero_mul S q))
 
   -- the units are the units among the constants
   pub unit_constant : (p : Poly R) → Invertible S p → (c : E) × Invertible R c × (p ≡ number R eq c)
@@ -67,7 +67,7 @@ module _ {E : Type 0} (R : Ring E) (eq : Discrete E) (D : Domain R Any) (zero≢
   constant_unit c (w, e) = (number R eq w, sym (number_one R eq) ∙ ap (number R eq) e ∙ number_mul R eq c w)
 
   pub invertible_nonzero : (c : E) → Invertible R c → ¬ (c ≡ 𝟘)
-  invertible_nonzero c (w, e) z = zero≢one (sym (e ∙ ap (λ x. x ⊙ w) z ∙ zero-mul R w))
+  invertible_nonzero c (w, e) z = zero≢one (sym (e ∙ ap (λ x. x ⊙ w) z ∙ zero_mul R w))
 
   module _ {M : E → Type 0} (N : MonicForms R M) where
     monic_nonzero : (p : Poly R) → LeadIs R M p → ¬ (p ≡ 𝟎)
@@ -97,8 +97,8 @@ module _ {E : Type 0} (R : Ring E) (eq : Discrete E) (D : Domain R Any) (zero≢
             let top : q.0 m ≡ c ⊙ p.0 m = ap (λ (r : Poly R). r.0 m) is ∙ coef_scale R eq c p m in
             let b' : M (q.0 m) = subst (λ k. M (q.0 k)) same_deg b in
             let one_lead : p.0 m ≡ q.0 m = N.unique _ _ a b' (c, top ∙ mul_comm R _ _) (w, back _ _ _ _ f top) in
-            let c_one : 𝟙 ≡ c = cancel R D (N.nonzero _ a) (mul-one R _ ∙ one_lead ∙ top ∙ mul_comm R _ _) in
-            sym (is ∙ ap (λ x. number R eq x ⊠ p) (sym c_one) ∙ ap (λ x. x ⊠ p) (number_one R eq) ∙ one-mul S p)
+            let c_one : 𝟙 ≡ c = cancel R D (N.nonzero _ a) (mul_one R _ ∙ one_lead ∙ top ∙ mul_comm R _ _) in
+            sym (is ∙ ap (λ x. number R eq x ⊠ p) (sym c_one) ∙ ap (λ x. x ⊠ p) (number_one R eq) ∙ one_mul S p)
           where
             back : (c w x y : E) → 𝟙 ≡ c ⊙ w → y ≡ c ⊙ x → x ≡ y ⊙ w
             back c w x y f h = combine R x f (combine R (R.neg w) h (by_ring R (c ∷ w ∷ x ∷ y ∷ []) (search quoting depth 30) tt))

@@ -1,6 +1,6 @@
 -- The theorems on polynomials in one unknown over a field.
 use Rattle.std.proofs.Common.{◌≡◌, pred, [], ◌∷◌, sym, ap, ◌∙◌, arith}
-use Rattle.algebra.specs.Ring.{combine, add_cancel, zero-mul, sub_zero→eq}
+use Rattle.algebra.specs.Ring.{combine, add_cancel, zero_mul, sub_zero→eq}
 use Rattle.algebra.specs.Solver.{by_ring, quoting}
 use Rattle.algebra.specs.Divisors.{Divides, Invertible, Associates, Greatest, Combined}
 use Rattle.algebra.specs.Polynomial.{Poly, poly, poly_discrete, size, size_least, zero?, evaluate}
@@ -77,7 +77,7 @@ module _ {E : Type 0} (F : Field E) where
   normal_gcd_unique p q g h s t m n = go (zero? K eq g) (zero? K eq h)
     where
       multiple : (a b : Poly K) → a ≡ 𝟘 → Divides (poly K eq) a b → b ≡ 𝟘
-      multiple a b z (c, e) = e ∙ ap (λ x. x ⊙ c) z ∙ zero-mul (poly K eq) c
+      multiple a b z (c, e) = e ∙ ap (λ x. x ⊙ c) z ∙ zero_mul (poly K eq) c
 
       go : Dec (g ≡ 𝟘) → Dec (h ≡ 𝟘) → g ≡ h
       go (yes z) d = z ∙ sym (multiple g h z (t.greatest g s.left s.right))

@@ -1,6 +1,6 @@
 -- A root of a polynomial over a field splits off its linear factor, and only zero has as many roots as its size.
 use Rattle.std.proofs.Common.{◌≡◌, ℕ, suc, ◌≤◌, List, [], ◌∷◌, length, sym, ap, ◌∙◌, ⊎_elim, arith}
-use Rattle.algebra.specs.Ring.{combine, add-zero, mul-zero, mul_comm, sub_zero→eq}
+use Rattle.algebra.specs.Ring.{combine, add_zero, mul_zero, mul_comm, sub_zero→eq}
 use Rattle.algebra.specs.Solver.{by_ring, quoting}
 use Rattle.algebra.specs.Divisors.{Divides}
 use Rattle.algebra.specs.Series.{cons_suc, at_one}
@@ -39,7 +39,7 @@ module _ {E : Type 0} (F : Field E) where
 
   pub root : (a : E) (p : Poly K) → at K eq a p ≡ 𝟘 → Divides (poly K eq) (linear K eq a) p
   unfolding evaluate
-  root a p z = (t.quo, t.is ∙ ap (λ r. t.quo ⊠ linear K eq a ⊞ r) none ∙ add-zero (poly K eq) _ ∙ mul_comm (poly K eq) _ _)
+  root a p z = (t.quo, t.is ∙ ap (λ r. t.quo ⊠ linear K eq a ⊞ r) none ∙ add_zero (poly K eq) _ ∙ mul_comm (poly K eq) _ _)
     where
       t : Quotient F p (linear K eq a)
       t = quotient F p (linear K eq a) (linear_nonzero a)
@@ -80,4 +80,4 @@ module _ {E : Type 0} (F : Field E) where
   roots [] p d z le = size_zero K eq p (omega arith)
   roots (a ∷ xs) p d z le =
       let (q, e) = root a p z.0 in
-      e ∙ ap (λ x. linear K eq a ⊠ x) (roots xs q d.1 (all_map (λ b. rest_root a p q e b) xs d.0 z.1) (rest_size a p q e (length xs) (omega arith))) ∙ mul-zero (poly K eq) _
+      e ∙ ap (λ x. linear K eq a ⊠ x) (roots xs q d.1 (all_map (λ b. rest_root a p q e b) xs d.0 z.1) (rest_size a p q e (length xs) (omega arith))) ∙ mul_zero (poly K eq) _

@@ -3,7 +3,7 @@ use Rattle.std.specs.Prelude.{◌≡◌, ℕ, zero, suc, ◌+◌, ◌≤◌, ◌
 use Rattle.std.proofs.Common.{sym, ◌∙◌, ap, ap₂, inl, inr, zero-le, suc-le-suc, arith}
 use Rattle.std.proofs.Math.Path.{fun_ext}
 use Rattle.std.proofs.Math.Decide.{ℕ_discrete}
-use Rattle.algebra.specs.Ring.{Ring, ring, mul-zero, zero-mul, add-zero, neg_zero}
+use Rattle.algebra.specs.Ring.{Ring, ring, mul_zero, zero_mul, add_zero, neg_zero}
 use Rattle.algebra.specs.Series.{Series, tail, series, const, cons, cons_suc, at_zero, at_add, at_neg, at_mul, at_mul_suc, at_const_mul, at_const_suc, at_one_suc}
 
 -- the coefficients from n on are zero
@@ -57,21 +57,21 @@ module _ {E : Type 0} (R : Ring E) where
   one_below (suc k) le = at_one_suc R k
 
   pub below_add : (n : ℕ) (f g : Series E) → Below R n f → Below R n g → Below R n (f ⊞ g)
-  below_add n f g p q k le = at_add R f g k ∙ ap₂ ◌⊕◌ (p k le) (q k le) ∙ add-zero R _
+  below_add n f g p q k le = at_add R f g k ∙ ap₂ ◌⊕◌ (p k le) (q k le) ∙ add_zero R _
 
   pub below_neg : (n : ℕ) (f : Series E) → Below R n f → Below R n (⊟ f)
   below_neg n f p k le = at_neg R f k ∙ ap ⊖◌ (p k le) ∙ neg_zero R
 
   pub below_scale : (n : ℕ) (c : E) (f : Series E) → Below R n f → Below R n (const R c ⊠ f)
-  below_scale n c f p k le = at_const_mul R c f k ∙ ap (λ x. c ⊙ x) (p k le) ∙ mul-zero R c
+  below_scale n c f p k le = at_const_mul R c f k ∙ ap (λ x. c ⊙ x) (p k le) ∙ mul_zero R c
 
   pub null_mul : (f g : Series E) → Below R zero f → (k : ℕ) → (f ⊠ g) k ≡ 𝟘
-  null_mul f g p k = ap (λ h. (h ⊠ g) k) (below_zero f p) ∙ ap (λ h. h k) (zero-mul (series R) g) ∙ at_zero R k
+  null_mul f g p k = ap (λ h. (h ⊠ g) k) (below_zero f p) ∙ ap (λ h. h k) (zero_mul (series R) g) ∙ at_zero R k
 
   -- past the bounds a product has no coefficient
   pub below_at : (m n : ℕ) (f g : Series E) → Below R m f → Below R n g → (k : ℕ) → m + n ≤ suc k → (f ⊠ g) k ≡ 𝟘
   below_at zero n f g p q k le = null_mul f g p k
-  below_at (suc m) n f g p q zero le = rw (at_mul R f g, q zero (omega arith)) (mul-zero R _)
+  below_at (suc m) n f g p q zero le = rw (at_mul R f g, q zero (omega arith)) (mul_zero R _)
   below_at (suc m) n f g p q (suc k) le = rw (at_mul_suc R f g k, q (suc k) (omega arith), below_at m n (tail f) g (below_tail m f p) q k (omega arith)) (simp ring)
 
   pub below_mul : (m n : ℕ) (f g : Series E) → Below R m f → Below R n g → Below R (m + n) (f ⊠ g)
@@ -81,7 +81,7 @@ module _ {E : Type 0} (R : Ring E) where
   lead_at zero n f g p q zero e = let z : n ≡ 0 = omega arith in rw z (at_mul R f g)
   lead_at zero n f g p q (suc k) e =
       let z : n ≡ suc k = omega arith in
-      rw (z, at_mul_suc R f g k, null_mul (tail f) g (below_tail zero f p) k) (add-zero R _)
+      rw (z, at_mul_suc R f g k, null_mul (tail f) g (below_tail zero f p) k) (add_zero R _)
   lead_at (suc m) n f g p q zero e = absurd (omega arith)
   lead_at (suc m) n f g p q (suc k) e = rw (at_mul_suc R f g k, q (suc k) (omega arith), lead_at m n (tail f) g (below_tail (suc m) f p) q k (omega arith)) (simp ring)
 

@@ -2,7 +2,7 @@
 use Rattle.std.specs.Prelude.{◌≡◌, ◌⊎◌}
 use Rattle.std.proofs.Common.{sym, ◌∙◌, ap, inl, inr}
 use mathlib.Core.HLevel.{Discrete}
-use Rattle.algebra.specs.Ring.{Ring, mul-zero, one-mul, mul_comm, mul_assoc}
+use Rattle.algebra.specs.Ring.{Ring, mul_zero, one_mul, mul_comm, mul_assoc}
 use Rattle.algebra.specs.Bounded.{Domain, Any}
 
 pub record Field (E : Type 0) : Type 0 where
@@ -26,11 +26,11 @@ module _ {E : Type 0} (F : Field E) where
   mul_cancel a b c n e = sym (back b) ∙ ap (λ x. inv a ⊙ x) e ∙ back c
     where
       back : (x : E) → inv a ⊙ (a ⊙ x) ≡ x
-      back x = sym (mul_assoc R _ _ _) ∙ ap (λ y. y ⊙ x) (inv_mul a n) ∙ one-mul R x
+      back x = sym (mul_assoc R _ _ _) ∙ ap (λ y. y ⊙ x) (inv_mul a n) ∙ one_mul R x
 
   pub field_domain : Domain R Any
   field_domain = record { zero? = λ a u. discrete a 𝟘; cancel = λ a b u v e. go a b e (discrete a 𝟘) }
     where
       go : (a b : E) → a ⊙ b ≡ 𝟘 → Dec (a ≡ 𝟘) → (a ≡ 𝟘) ⊎ (b ≡ 𝟘)
       go a b e (yes z) = inl z
-      go a b e (no n) = inr (mul_cancel a b 𝟘 n (e ∙ sym (mul-zero R a)))
+      go a b e (no n) = inr (mul_cancel a b 𝟘 n (e ∙ sym (mul_zero R a)))

@@ -106,12 +106,12 @@ module _ {E : Type 0} (R : Ring E) (eq : Discrete E) where
     mul = p_mul;
     add_assoc = λ p q r. same ((series R).add_assoc _ _ _);
     add_comm = λ p q. same ((series R).add_comm _ _);
-    add-zero = λ p. same ((series R).add-zero _);
+    add_zero = λ p. same ((series R).add_zero _);
     add_neg = λ p. same ((series R).add_neg _);
     mul_assoc = λ p q r. same ((series R).mul_assoc _ _ _);
     mul_comm = λ p q. same ((series R).mul_comm _ _);
-    mul-one = λ p. same ((series R).mul-one _);
-    mul-add = λ p q r. same ((series R).mul-add _ _ _);
+    mul_one = λ p. same ((series R).mul_one _);
+    mul_add = λ p q r. same ((series R).mul_add _ _ _);
   }
 
   open poly use {zero as 𝟘, one as 𝟙, add as ◌⊕◌, neg as ⊖◌, mul as ◌⊙◌}

@@ -2,7 +2,7 @@
 use Rattle.std.specs.Prelude.{◌≡◌, ℕ, zero, suc}
 use Rattle.std.proofs.Math.Path.{refl, fun_ext}
 use Rattle.std.proofs.Common.{◌∙◌, ap₂}
-use Rattle.algebra.specs.Ring.{Ring, ring, zero-mul, add_left_comm}
+use Rattle.algebra.specs.Ring.{Ring, ring, zero_mul, add_left_comm}
 
 -- the coefficients, from the constant up
 abbrev pub Series : Type 0 → Type 0
@@ -89,12 +89,12 @@ module _ {E : Type 0} (R : Ring E) where
     mul = smul;
     add_assoc = λ f g h. fun_ext λ k. R.add_assoc _ _ _;
     add_comm = λ f g. fun_ext λ k. R.add_comm _ _;
-    add-zero = λ f. fun_ext λ k. R.add-zero _;
+    add_zero = λ f. fun_ext λ k. R.add_zero _;
     add_neg = λ f. fun_ext λ k. R.add_neg _;
     mul_assoc = λ f g h. fun_ext (smul_assoc f g h);
     mul_comm = λ f g. fun_ext (smul_comm f g);
-    mul-one = λ f. fun_ext λ k. smul_comm f sone k ∙ one_smul f k;
-    mul-add = λ f g h. fun_ext λ k. smul_comm f (sadd g h) k ∙ smul_add g h f k ∙ ap₂ ◌⊕◌ (smul_comm g f k) (smul_comm h f k);
+    mul_one = λ f. fun_ext λ k. smul_comm f sone k ∙ one_smul f k;
+    mul_add = λ f g h. fun_ext λ k. smul_comm f (sadd g h) k ∙ smul_add g h f k ∙ ap₂ ◌⊕◌ (smul_comm g f k) (smul_comm h f k);
   }
 
 -- the series a + x f
@@ -169,7 +169,7 @@ module _ {E : Type 0} (R : Ring E) where
   pub at_const_mul : (c : E) (f : Series E) (k : ℕ) → (const c ⊠ f) k ≡ c ⊙ f k
   unfolding const
   at_const_mul c f zero = simp (at_mul, cons_zero)
-  at_const_mul c f (suc k) = rw (at_mul_suc (cons c 𝟎) f k, cons_zero c 𝟎, tail_cons c 𝟎, zero-mul (series R) f, at_zero k) (simp ring)
+  at_const_mul c f (suc k) = rw (at_mul_suc (cons c 𝟎) f k, cons_zero c 𝟎, tail_cons c 𝟎, zero_mul (series R) f, at_zero k) (simp ring)
 
   pub ruleset coef = (at_zero, at_one, at_one_suc, at_add, at_neg, at_mul, at_const_mul, at_mul_suc, cons_zero, cons_suc, at_const, at_const_suc)
 

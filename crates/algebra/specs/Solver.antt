@@ -3,7 +3,7 @@ use Rattle.std.specs.Prelude.{◌≡◌, ℕ, zero, suc, ◌+◌, ◌*◌, Bool,
 use Rattle.std.proofs.Math.Path.{refl, sym, ap, ap₂}
 use Rattle.std.proofs.Common.{◌∙◌, eqb→eq}
 use Rattle.std.proofs.Math.Nat as NatL
-use Rattle.algebra.specs.Ring.{Ring, ring, ring_eq, sub_zero→eq, add-zero, zero_add, zero-mul, mul-zero}
+use Rattle.algebra.specs.Ring.{Ring, ring, ring_eq, sub_zero→eq, add_zero, zero_add, zero_mul, mul_zero}
 
 infixl 60 ◌:+◌
 infixl 60 ◌:-◌
@@ -118,7 +118,7 @@ module _ {E : Type 0} (R : Ring E) where
 
   times_mul : (m n : ℕ) → times (m * n) ≡ times m ⊙ times n
   unfolding times
-  times_mul zero n = rw (NatL.zero-mul n) (sym (zero-mul R _))
+  times_mul zero n = rw (NatL.zero-mul n) (sym (zero_mul R _))
   times_mul (suc m) n = ap times (NatL.suc-mul m n) ∙ times_add (m * n) n ∙ ap (λ x. x ⊕ times n) (times_mul m n) ∙ dist _ _
     where
       dist : (a b : E) → a ⊙ b ⊕ b ≡ (𝟙 ⊕ a) ⊙ b
@@ -137,7 +137,7 @@ module _ {E : Type 0} (R : Ring E) where
     h_add : (f : A → A → A) → ((a b : A) → v (f a b) ≡ v a ⊕ v b) → (p q : List A) → horner x v (ladd f p q) ≡ horner x v p ⊕ horner x v q
     unfolding horner
     h_add f h [] q = sym (zero_add R _)
-    h_add f h (a ∷ p) [] = sym (add-zero R _)
+    h_add f h (a ∷ p) [] = sym (add_zero R _)
     h_add f h (a ∷ p) (b ∷ q) = ap₂ (λ s t. s ⊕ x ⊙ t) (h a b) (h_add f h p q) ∙ law _ _ _ _
       where
         law : (a b c d : E) → a ⊕ b ⊕ x ⊙ (c ⊕ d) ≡ a ⊕ x ⊙ c ⊕ (b ⊕ x ⊙ d)
@@ -145,7 +145,7 @@ module _ {E : Type 0} (R : Ring E) where
 
     h_map : (f : A → A) (c : E) → ((a : A) → v (f a) ≡ c ⊙ v a) → (p : List A) → horner x v (map f p) ≡ c ⊙ horner x v p
     unfolding horner
-    h_map f c h [] = sym (mul-zero R c)
+    h_map f c h [] = sym (mul_zero R c)
     h_map f c h (a ∷ p) = ap₂ (λ s t. s ⊕ x ⊙ t) (h a) (h_map f c h p) ∙ law _ _
       where
         law : (a b : E) → c ⊙ a ⊕ x ⊙ (c ⊙ b) ≡ c ⊙ (a ⊕ x ⊙ b)
@@ -153,7 +153,7 @@ module _ {E : Type 0} (R : Ring E) where
 
     h_mul : (z : A) (f m : A → A → A) → v z ≡ 𝟘 → ((a b : A) → v (f a b) ≡ v a ⊕ v b) → ((a b : A) → v (m a b) ≡ v a ⊙ v b) → (p q : List A) → horner x v (lmul z f m p q) ≡ horner x v p ⊙ horner x v q
     unfolding horner
-    h_mul z f m hz hf hm [] q = sym (zero-mul R _)
+    h_mul z f m hz hf hm [] q = sym (zero_mul R _)
     h_mul z f m hz hf hm (a ∷ p) q =
         h_add f hf (map (m a) q) (z ∷ lmul z f m p q) ∙ ap₂ (λ s t. s ⊕ t) (h_map (m a) (v a) (hm a) q) (ap₂ (λ s t. s ⊕ x ⊙ t) hz (h_mul z f m hz hf hm p q)) ∙ law _ _ _
       where

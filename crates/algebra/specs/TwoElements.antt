@@ -46,12 +46,12 @@ two_elements_ring = record {
   mul = ◌&&◌;
   add_assoc = plus_assoc;
   add_comm = plus_comm;
-  add-zero = plus_false;
+  add_zero = plus_false;
   add_neg = plus_self;
   mul_assoc = and_assoc;
   mul_comm = and_comm;
-  mul-one = and-true;
-  mul-add = and_plus;
+  mul_one = and-true;
+  mul_add = and_plus;
 }
 
 unfoldable pub two_elements : Field Bool

@@ -1,7 +1,7 @@
 -- Polynomials in x and y over a field have no zero divisors: cancelling, factors and sizes.
 use Rattle.std.proofs.Common.{◌≡◌, ℕ, zero, suc, pred, ◌+◌, ◌≤◌, ap, ◌∙◌, arith}
 use mathlib.Core.HLevel.{Discrete}
-use Rattle.algebra.specs.Ring.{Ring, mul-zero, zero-mul}
+use Rattle.algebra.specs.Ring.{Ring, mul_zero, zero_mul}
 use Rattle.algebra.specs.Divisors.{Divides}
 use Rattle.algebra.specs.Bounded.{Domain, Any}
 use Rattle.algebra.specs.Polynomial.{Poly, poly, poly_discrete, size}
@@ -20,10 +20,10 @@ module _ {E : Type 0} (R : Ring E) where
 
   infixl 70 ◌⊙◌
   pub left_nonzero : {a b c : E} → a ≡ b ⊙ c → ¬ (a ≡ 𝟘) → ¬ (b ≡ 𝟘)
-  left_nonzero {a} {b} {c} e n z = n (e ∙ ap (λ x. x ⊙ c) z ∙ zero-mul R c)
+  left_nonzero {a} {b} {c} e n z = n (e ∙ ap (λ x. x ⊙ c) z ∙ zero_mul R c)
 
   pub right_nonzero : {a b c : E} → a ≡ b ⊙ c → ¬ (a ≡ 𝟘) → ¬ (c ≡ 𝟘)
-  right_nonzero {a} {b} {c} e n z = n (e ∙ ap (λ x. b ⊙ x) z ∙ mul-zero R b)
+  right_nonzero {a} {b} {c} e n z = n (e ∙ ap (λ x. b ⊙ x) z ∙ mul_zero R b)
 
 -- a divisor of what is not zero is no larger
 pub divisor_size : {E : Type 0} (R : Ring E) (eq : Discrete E) → Domain R Any → (d p : Poly R) → Divides (poly R eq) d p → ¬ (p ≡ (poly R eq).zero) → size R d ≤ size R p

@@ -1,6 +1,6 @@
 -- Gauss's lemma: a product of primitive polynomials is primitive. So a primitive polynomial that divides a constant multiple of another divides that one.
 use Rattle.std.proofs.Common.{◌≡◌, ℕ, zero, suc, ◌+◌, ◌≤◌, [], ◌∷◌, sym, ap, ◌∙◌, arith}
-use Rattle.algebra.specs.Ring.{Ring, combine, mul-zero, mul_comm}
+use Rattle.algebra.specs.Ring.{Ring, combine, mul_zero, mul_comm}
 use Rattle.algebra.specs.Solver.{by_ring, quoting}
 use Rattle.algebra.specs.Divisors.{Divides, Invertible, Coprime, Combined}
 use Rattle.algebra.specs.Polynomial.{Poly, poly, size, zero?}
@@ -94,7 +94,7 @@ module _ {E : Type 0} (B : BezoutDomain E) where
       nc = number_nonzero R eq c n
 
       go : Dec (Q ≡ 𝟎) → Divides S D A
-      go (yes z) = divides_eq S (sym (cancel S (poly_domain R eq domain) nc (e ∙ ap (λ x. D ⊠ x) z ∙ mul-zero S D ∙ sym (mul-zero S _)))) (divides_zero S D)
+      go (yes z) = divides_eq S (sym (cancel S (poly_domain R eq domain) nc (e ∙ ap (λ x. D ⊠ x) z ∙ mul_zero S D ∙ sym (mul_zero S _)))) (divides_zero S D)
       go (no k) =
           let t = split B Q in
           let e' = gather _ _ _ _ _ _ e t.is in

@@ -1,7 +1,7 @@
 -- Primitive polynomials over a ring whose greatest common divisors are combinations: each polynomial is a weighted sum of its coefficients times a primitive one.
 use Rattle.std.proofs.Common.{◌≡◌, ℕ, zero, suc, List, [], ◌∷◌, map, sym, refl, ap, ◌∙◌, ap₂}
 use mathlib.Core.Path.{fun_ext}
-use Rattle.algebra.specs.Ring.{Ring, ring, zero-mul, mul-zero, mul-one, mul_comm, one-mul}
+use Rattle.algebra.specs.Ring.{Ring, ring, zero_mul, mul_zero, mul_one, mul_comm, one_mul}
 use Rattle.algebra.specs.Divisors.{Divides, Invertible}
 use Rattle.algebra.specs.Series.{Series, series, tail, const, cons, cons_zero, cons_suc, at_const_mul}
 use Rattle.algebra.specs.Bounded.{Below, below_tail, below_zero, zero_below, below_cons, below_scale}
@@ -20,7 +20,7 @@ module _ {E : Type 0} (R : Ring E) where
   infixl 70 ◌⊠◌
   weighted_scale : (c : E) (us : List E) (f : Series E) → weighted R us (const R c ⊠ f) ≡ c ⊙ weighted R us f
   unfolding weighted
-  weighted_scale c [] f = sym (mul-zero R c)
+  weighted_scale c [] f = sym (mul_zero R c)
   weighted_scale c (u ∷ us) f = ap₂ (λ x y. u ⊙ x ⊕ y) (at_const_mul R c f zero) (ap (weighted R us) tail_scale ∙ weighted_scale c us (tail f)) ∙ law _ _
     where
       tail_scale : tail (const R c ⊠ f) ≡ const R c ⊠ tail f
@@ -31,7 +31,7 @@ module _ {E : Type 0} (R : Ring E) where
 
   weighted_times : (c : E) (us : List E) (f : Series E) → weighted R (map (λ u. c ⊙ u) us) f ≡ c ⊙ weighted R us f
   unfolding weighted
-  weighted_times c [] f = sym (mul-zero R c)
+  weighted_times c [] f = sym (mul_zero R c)
   weighted_times c (u ∷ us) f = ap (λ y. c ⊙ u ⊙ f zero ⊕ y) (weighted_times c us (tail f)) ∙ law _ _
     where
       law : (x y : E) → c ⊙ u ⊙ x ⊕ c ⊙ y ≡ c ⊙ (u ⊙ x ⊕ y)
@@ -61,7 +61,7 @@ module _ {E : Type 0} (B : BezoutDomain E) where
 
   series_split : (n : ℕ) (f : Series E) → Below R n f → SeriesSplit n f
   unfolding weighted
-  series_split zero f b = record { c = 𝟘; us = []; h = (series R).zero; is = below_zero R f b ∙ sym (mul-zero (series R) _); below = zero_below R 0; combined = refl }
+  series_split zero f b = record { c = 𝟘; us = []; h = (series R).zero; is = below_zero R f b ∙ sym (mul_zero (series R) _); below = zero_below R 0; combined = refl }
   series_split (suc n) f b = go (series_split n (tail f) (below_tail R n f b))
     where
       go : SeriesSplit n (tail f) → SeriesSplit (suc n) f
@@ -107,15 +107,15 @@ module _ {E : Type 0} (B : BezoutDomain E) where
 
   -- what divides all coefficients of a multiple of a primitive polynomial divides the factor
   pub primitive_divides : (d l : E) (H : Poly R) → Primitive R H → Divides (poly R eq) (number R eq d) (number R eq l ⊠ H) → Divides R d l
-  primitive_divides d l H (us, e) (Q, f) = (weighted R us Q.0, sym (mul-one R l) ∙ ap (λ x. l ⊙ x) (sym e) ∙ sym (weighted_number us l H) ∙ ap (λ (p : Poly R). weighted R us p.0) f ∙ weighted_number us d Q)
+  primitive_divides d l H (us, e) (Q, f) = (weighted R us Q.0, sym (mul_one R l) ∙ ap (λ x. l ⊙ x) (sym e) ∙ sym (weighted_number us l H) ∙ ap (λ (p : Poly R). weighted R us p.0) f ∙ weighted_number us d Q)
 
   pub primitive_unit : (d : E) (H : Poly R) → Primitive R H → Divides (poly R eq) (number R eq d) H → Invertible R d
-  primitive_unit d H p (Q, f) = primitive_divides d 𝟙 H p (Q, ap (λ x. x ⊠ H) (number_one R eq) ∙ one-mul (poly R eq) H ∙ f)
+  primitive_unit d H p (Q, f) = primitive_divides d 𝟙 H p (Q, ap (λ x. x ⊠ H) (number_one R eq) ∙ one_mul (poly R eq) H ∙ f)
 
   pub primitive_nonzero : (H : Poly R) → Primitive R H → ¬ (H ≡ 𝟎)
   primitive_nonzero H p z =
-      let (w, e) = primitive_unit 𝟘 H p (𝟎, z ∙ sym (mul-zero (poly R eq) _)) in
-      zero≢one (sym (e ∙ zero-mul R w))
+      let (w, e) = primitive_unit 𝟘 H p (𝟎, z ∙ sym (mul_zero (poly R eq) _)) in
+      zero≢one (sym (e ∙ zero_mul R w))
 
   pub only_units_primitive : (A : Poly R) → ((d : E) → Divides (poly R eq) (number R eq d) A → Invertible R d) → Primitive R A
   only_units_primitive A h =
@@ -140,10 +140,10 @@ module _ {E : Type 0} (B : BezoutDomain E) where
   -- of a polynomial that is not zero, the part is primitive and of the same size
   module _ (A : Poly R) (n : ¬ (A ≡ 𝟎)) (t : Split A) where
     pub content_nonzero : ¬ (t.content ≡ 𝟘)
-    content_nonzero z = n (t.is ∙ ap (λ x. number R eq x ⊠ t.part) z ∙ ap (λ x. x ⊠ t.part) (number_zero R eq) ∙ zero-mul (poly R eq) _)
+    content_nonzero z = n (t.is ∙ ap (λ x. number R eq x ⊠ t.part) z ∙ ap (λ x. x ⊠ t.part) (number_zero R eq) ∙ zero_mul (poly R eq) _)
 
     pub part_primitive : Primitive R t.part
-    part_primitive = (t.weights, cancel R domain content_nonzero (sym (weighted_number t.weights t.content t.part) ∙ ap (λ (p : Poly R). weighted R t.weights p.0) (sym t.is) ∙ t.combined ∙ sym (mul-one R _)))
+    part_primitive = (t.weights, cancel R domain content_nonzero (sym (weighted_number t.weights t.content t.part) ∙ ap (λ (p : Poly R). weighted R t.weights p.0) (sym t.is) ∙ t.combined ∙ sym (mul_one R _)))
 
     part_nonzero : ¬ (t.part ≡ 𝟎)
     part_nonzero = primitive_nonzero t.part part_primitive

@@ -2,7 +2,7 @@
 use Rattle.std.proofs.Common.{◌≡◌, ℕ, zero, suc, ◌+◌, ◌<◌, ◌≤◌, max, sym, ap, ◌∙◌, ap₂, ⊎_elim, arith}
 use mathlib.Core.Path.{fun_ext}
 use native.Mathlib.Decide.{dec_le, ℕ_discrete}
-use Rattle.algebra.specs.Ring.{add-zero}
+use Rattle.algebra.specs.Ring.{add_zero}
 use Rattle.algebra.specs.Series.{Series, series, tail, at_zero, at_add, at_mul, at_mul_suc}
 use Rattle.algebra.specs.Bounded.{Below, Any, Polynomial, polynomials, below_at, lead}
 use Rattle.algebra.specs.Polynomial.{Poly, poly, poly_discrete, same, size, size_least, of_add, of_mul}
@@ -83,7 +83,7 @@ module _ {E : Type 0} (F : Field E) where
   bound_mul m n f g p q zero j l = ap (λ (h : Poly K). h.0 j) (at_mul (poly K eq) f g) ∙ ap (λ h. h j) (of_mul K eq (f 0) (g 0)) ∙ below_at K m n (f 0).0 (g 0).0 (p 0) (q 0) j l
   bound_mul m n f g p q (suc k) j l =
       ap (λ (h : Poly K). h.0 j) (at_mul_suc (poly K eq) f g k) ∙ ap (λ h. h j) (of_add K eq (f 0 ⊙ g (suc k)) ((series (poly K eq)).mul (tail f) g k)) ∙ at_add K _ _ j
-      ∙ ap₂ K.add (ap (λ h. h j) (of_mul K eq (f 0) (g (suc k))) ∙ below_at K m n (f 0).0 (g (suc k)).0 (p 0) (q (suc k)) j l) (bound_mul m n (tail f) g (λ i. p (suc i)) q k j l) ∙ add-zero K _
+      ∙ ap₂ K.add (ap (λ h. h j) (of_mul K eq (f 0) (g (suc k))) ∙ below_at K m n (f 0).0 (g (suc k)).0 (p 0) (q (suc k)) j l) (bound_mul m n (tail f) g (λ i. p (suc i)) q k j l) ∙ add_zero K _
 
   within_below : (n : ℕ) (A : K[y][x] F) → Within F n A → (k : ℕ) → Below K n (A.0 k).0
   within_below n A h k j l = let s = h k in (A.0 k).1.1.0 j (omega arith)

@@ -3,7 +3,7 @@ use Rattle.std.proofs.Common.{◌≡◌, ℕ, zero, suc, ◌+◌, ◌-◌, ◌*�
 use mathlib.Core.Path.{fun_ext}
 use mathlib.Core.HLevel.{Discrete}
 use native.Mathlib.Decide.{dec_le}
-use Rattle.algebra.specs.Ring.{Ring, add-zero, mul-zero}
+use Rattle.algebra.specs.Ring.{Ring, add_zero, mul_zero}
 use Rattle.algebra.specs.Series.{Series, tail, sadd, scale}
 use Rattle.algebra.specs.Bounded.{Below}
 use Rattle.algebra.specs.Polynomial.{Poly, poly, poly_discrete, make, make_is, same, size, size_least}
@@ -37,13 +37,13 @@ module _ {E : Type 0} (R : Ring E) where
 
   cut_add : (w : ℕ) (f g : Series E) (k : ℕ) → cut w (sadd R f g) k ≡ cut w f k ⊕ cut w g k
   unfolding cut
-  cut_add zero f g k = sym (add-zero R _)
+  cut_add zero f g k = sym (add_zero R _)
   cut_add (suc w) f g zero = refl
   cut_add (suc w) f g (suc k) = cut_add w (tail f) (tail g) k
 
   cut_scale : (w : ℕ) (c : E) (f : Series E) (k : ℕ) → cut w (scale R c f) k ≡ c ⊙ cut w f k
   unfolding cut
-  cut_scale zero c f k = sym (mul-zero R c)
+  cut_scale zero c f k = sym (mul_zero R c)
   cut_scale (suc w) c f zero = refl
   cut_scale (suc w) c f (suc k) = cut_scale w c (tail f) k
 

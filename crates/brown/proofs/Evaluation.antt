@@ -1,7 +1,7 @@
 -- The image at y = α of a polynomial in x and y: its coefficients, its size, and that no image of a primitive polynomial is zero.
 use Rattle.std.proofs.Common.{◌≡◌, ℕ, zero, suc, pred, ◌≤◌, List, [], ◌∷◌, sym, ap, ◌∙◌, ap₂, arith}
 use mathlib.Core.Path.{fun_ext}
-use Rattle.algebra.specs.Ring.{mul-zero, add-zero}
+use Rattle.algebra.specs.Ring.{mul_zero, add_zero}
 use Rattle.algebra.specs.Series.{Series, tail}
 use Rattle.algebra.specs.Bounded.{Below}
 use Rattle.algebra.specs.Polynomial.{Poly, poly, poly_discrete, same, size, size_least, at, evaluate}
@@ -58,7 +58,7 @@ module _ {E : Type 0} (F : Field E) (α : E) where
   weighted_at : (us : List (K[y] F)) (f : Series (K[y] F)) → ((k : ℕ) → at K eq α (f k) ≡ K.zero) → at K eq α (weighted (poly K eq) us f) ≡ K.zero
   unfolding weighted
   weighted_at [] f h = (evaluation F).zero α
-  weighted_at (u ∷ us) f h = (evaluation F).sum α _ _ ∙ ap₂ K.add ((evaluation F).product α u (f 0) ∙ ap (K.mul _) (h 0) ∙ mul-zero K _) (weighted_at us (tail f) (λ k. h (suc k))) ∙ add-zero K _
+  weighted_at (u ∷ us) f h = (evaluation F).sum α _ _ ∙ ap₂ K.add ((evaluation F).product α u (f 0) ∙ ap (K.mul _) (h 0) ∙ mul_zero K _) (weighted_at us (tail f) (λ k. h (suc k))) ∙ add_zero K _
 
   pub primitive_at_y : (A : K[y][x] F) → Primitive (poly K eq) A → ¬ (at_y F α A ≡ 𝟘)
   primitive_at_y A (us, e) z = F.zero≢one (sym (weighted_at us A.0 (λ k. sym (at_y_coef A k) ∙ ap (λ (q : Poly K). q.0 k) z ∙ coef_zero K eq k)) ∙ ap (at K eq α) e ∙ (evaluation F).one α)

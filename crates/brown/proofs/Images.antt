@@ -1,6 +1,6 @@
 -- The theorem on images: the greatest common divisor of the images at a point is the image of G' times what the images of the cofactors share.
 use Rattle.std.proofs.Common.{◌≡◌, ℕ, zero, pred, ◌+◌, ◌<◌, ◌≤◌, min, [], ◌∷◌, sym, ap, ◌∙◌, arith}
-use Rattle.algebra.specs.Ring.{combine, mul-zero}
+use Rattle.algebra.specs.Ring.{combine, mul_zero}
 use Rattle.algebra.specs.Solver.{by_ring, quoting}
 use Rattle.algebra.specs.Divisors.{Divides, Greatest, Combined}
 use Rattle.algebra.specs.Polynomial.{Poly, poly, poly_discrete, size, at}
@@ -84,7 +84,7 @@ module _ {E : Type 0} (F : Field E) {A B : K[y][x] F} (p : Prepared F A B) where
 
     module _ (ok : ¬ (at K eq α γ ≡ K.zero)) where
       pub lead_stays : ¬ (at K eq α (lead_x F G') ≡ K.zero)
-      lead_stays z = ok (ap (at K eq α) (γ_is F p) ∙ (evaluation F).product α (Δ F p) (lead_x F G') ∙ ap (K.mul _) z ∙ mul-zero K _)
+      lead_stays z = ok (ap (at K eq α) (γ_is F p) ∙ (evaluation F).product α (Δ F p) (lead_x F G') ∙ ap (K.mul _) z ∙ mul_zero K _)
 
       pub G_size : size K (at_y F α G') ≡ size (poly K eq) G'
       G_size = at_y_size_stays F α G' (G_nonzero F p) lead_stays

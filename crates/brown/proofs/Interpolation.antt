@@ -1,7 +1,7 @@
 -- The theorem on interpolation: by Newton's form for one unknown, and so for each coefficient in two.
 use Rattle.std.proofs.Common.{◌≡◌, ℕ, zero, suc, ◌≤◌, max, List, [], ◌∷◌, length, sym, refl, ap, ◌∙◌, ap₂, ⊎_elim, arith}
 use mathlib.Core.Path.{fun_ext}
-use Rattle.algebra.specs.Ring.{ring_eq, sub_zero→eq, neg_unique, mul-zero, zero-mul, add-zero, add_neg, mul_assoc}
+use Rattle.algebra.specs.Ring.{ring_eq, sub_zero→eq, neg_unique, mul_zero, zero_mul, add_zero, add_neg, mul_assoc}
 use Rattle.algebra.specs.Series.{Series}
 use Rattle.algebra.specs.Bounded.{Below}
 use Rattle.algebra.specs.Polynomial.{Poly, poly, poly_discrete, make, same, size, at}
@@ -53,8 +53,8 @@ module _ {E : Type 0} (F : Field E) where
   unfolding node
   node_zero [] = tt
   node_zero (α ∷ αs) = (
-    (evaluation F).product α (linear K eq α) (node αs) ∙ ap (λ x. x ⊙ at K eq α (node αs)) (at_linear K eq α α ∙ add_neg K α) ∙ zero-mul K _,
-    all_map (λ β e. (evaluation F).product β (linear K eq α) (node αs) ∙ ap (λ x. at K eq β (linear K eq α) ⊙ x) e ∙ mul-zero K _) αs (node_zero αs),
+    (evaluation F).product α (linear K eq α) (node αs) ∙ ap (λ x. x ⊙ at K eq α (node αs)) (at_linear K eq α α ∙ add_neg K α) ∙ zero_mul K _,
+    all_map (λ β e. (evaluation F).product β (linear K eq α) (node αs) ∙ ap (λ x. at K eq β (linear K eq α) ⊙ x) e ∙ mul_zero K _) αs (node_zero αs),
   )
 
   node_nonzero : (β : E) (αs : List E) → All (λ α. ¬ (α ≡ β)) αs → ¬ (at K eq β (node αs) ≡ 𝟘)
@@ -96,7 +96,7 @@ module _ {E : Type 0} (F : Field E) where
         there [] [] z h = tt
         there [] (u ∷ us) z h = absurd h
         there (β ∷ βs) [] z h = absurd h
-        there (β ∷ βs) (u ∷ us) z h = (split β ∙ ap₂ (λ x y. x ⊕ c ⊙ y) h.0 z.0 ∙ ap (λ x. f u ⊕ x) (mul-zero K c) ∙ add-zero K _, there βs us z.1 h.1)
+        there (β ∷ βs) (u ∷ us) z h = (split β ∙ ap₂ (λ x y. x ⊕ c ⊙ y) h.0 z.0 ∙ ap (λ x. f u ⊕ x) (mul_zero K c) ∙ add_zero K _, there βs us z.1 h.1)
 
     through : (αs : List E) (vs : List V) → Distinct αs → length αs ≡ length vs → Through αs vs
     through [] [] d e = record { curve = 𝟎; small = let z = size_of_zero K eq in omega arith; meets = tt }

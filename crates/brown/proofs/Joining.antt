@@ -1,6 +1,6 @@
 -- Joining the images at a sample of points: it can be done in exactly one way, and what is joined has γ for its leading coefficient.
 use Rattle.std.proofs.Common.{◌≡◌, ℕ, suc, ◌+◌, ◌≤◌, List, length, sym, ap, ◌∙◌, subst, arith}
-use Rattle.algebra.specs.Ring.{mul-one, mul-zero}
+use Rattle.algebra.specs.Ring.{mul_one, mul_zero}
 use Rattle.algebra.specs.Bounded.{Below}
 use Rattle.algebra.specs.Polynomial.{Poly, poly, poly_discrete, size, at}
 use Rattle.algebra.specs.Change.{poly₂, number}
@@ -105,10 +105,10 @@ module _ {E : Type 0} (F : Field E) {A B : K[y][x] F} (p : Prepared F A B) {k : 
     G_coef_within i = let e = s.number in let l = j.G_within i in omega arith
 
     G_below : Below (poly K eq) (suc k) G*.0
-    G_below i l = roots F αs (G*.0 i) s.distinct (all_map (λ α t. G_coef α t i ∙ (let e = t.sized in ap (K.mul _) (t.value.g.1.1.0 i (omega arith))) ∙ mul-zero K _) αs points) (G_coef_within i)
+    G_below i l = roots F αs (G*.0 i) s.distinct (all_map (λ α t. G_coef α t i ∙ (let e = t.sized in ap (K.mul _) (t.value.g.1.1.0 i (omega arith))) ∙ mul_zero K _) αs points) (G_coef_within i)
 
     G_first : G*.0 k ≡ γ
-    G_first = agree F αs (G*.0 k) γ s.distinct (G_coef_within k) γ_within (all_map (λ α t. G_coef α t k ∙ ap (K.mul _) (sym (lead_at K eq t.value.g k t.sized) ∙ monic_lead F t.value.g t.value.image.monic) ∙ mul-one K _) αs points)
+    G_first = agree F αs (G*.0 k) γ s.distinct (G_coef_within k) γ_within (all_map (λ α t. G_coef α t k ∙ ap (K.mul _) (sym (lead_at K eq t.value.g k t.sized) ∙ monic_lead F t.value.g t.value.image.monic) ∙ mul_one K _) αs points)
       where
         γ_within : size K γ ≤ length αs
         γ_within =

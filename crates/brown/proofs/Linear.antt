@@ -115,9 +115,9 @@ module _ {E : Type 0} (F : Field E) where
     pub nonzero : ¬ (vector place ≡ 𝟘)
     pub solves : Solves R vector l
 
-  length-map : {A B : Type 0} (f : A → B) (l : List A) → length (map f l) ≡ length l
-  length-map f [] = refl
-  length-map f (a ∷ l) = ap suc (length-map f l)
+  length_map : {A B : Type 0} (f : A → B) (l : List A) → length (map f l) ≡ length l
+  length_map f [] = refl
+  length_map f (a ∷ l) = ap suc (length_map f l)
 
   step : (n : ℕ) (l : List (Form R)) (p : Pivot (unit n) l) → Solution n (map (reduce (unit n) p.equation) p.rest) → Solution (suc n) l
   step n l p t =
@@ -137,4 +137,4 @@ module _ {E : Type 0} (F : Field E) where
     where
       go : ((k : List (Form R)) → length k < n → Solution n k) → Solves R (unit n) l ⊎ Pivot (unit n) l → Solution (suc n) l
       go ih (inl s) = record { vector = unit n; place = n; inside = omega arith; nonzero = λ e. zero≢one (sym e ∙ unit_at n); solves = s }
-      go ih (inr p) = step n l p (ih _ (rw (length-map (reduce (unit n) p.equation) p.rest) (omega (arith, p.shorter))))
+      go ih (inr p) = step n l p (ih _ (rw (length_map (reduce (unit n) p.equation) p.rest) (omega (arith, p.shorter))))

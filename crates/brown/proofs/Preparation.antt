@@ -1,6 +1,6 @@
 -- The theorem on preparing two polynomials, and what follows from the facts that are prepared.
 use Rattle.std.proofs.Common.{◌≡◌, sym, refl, ap, ◌∙◌, subst, arith}
-use Rattle.algebra.specs.Ring.{mul_comm, mul-one, one-mul}
+use Rattle.algebra.specs.Ring.{mul_comm, mul_one, one_mul}
 use Rattle.algebra.specs.Divisors.{Divides, Greatest}
 use Rattle.algebra.specs.Polynomial.{poly, poly_discrete}
 use Rattle.algebra.specs.Change.{poly₂, number_one}
@@ -103,8 +103,8 @@ module _ {E : Type 0} (F : Field E) where
         let m : Monic K (G'.0 0) = subst (Monic K) (lead_at (poly K eq) (poly_discrete K eq) G' 0 (omega arith)) lead_monic in
         let one : Monic K 𝟙 = subst (Monic K) (number_one K eq) (constant_monic K eq (field_domain F) zero≢one (field_forms F) K.one refl) in
         sym ((contents F).unique
-        (record { monic = m; primitive = divisor_primitive F 𝟏 G' G_primitive (G', sym (one-mul (poly₂ K eq) G')); is = is ∙ sym (mul-one (poly₂ K eq) _) })
-        (record { monic = one; primitive = G_primitive; is = sym (ap (λ X. X ⊠ G') (number_one (poly K eq) (poly_discrete K eq)) ∙ one-mul (poly₂ K eq) G') })).1
+        (record { monic = m; primitive = divisor_primitive F 𝟏 G' G_primitive (G', sym (one_mul (poly₂ K eq) G')); is = is ∙ sym (mul_one (poly₂ K eq) _) })
+        (record { monic = one; primitive = G_primitive; is = sym (ap (λ X. X ⊠ G') (number_one (poly K eq) (poly_discrete K eq)) ∙ one_mul (poly₂ K eq) G') })).1
 
     whole : {c : K[y] F} → Monic K c → Greatest (poly K eq) p.content_A p.content_B c → (Ā : K[y][x] F) × (B̄ : K[y][x] F) × Reduced F A B (lift F c ⊠ G') Ā B̄
     whole m g =

@@ -1,7 +1,7 @@
 -- Sizes and leading coefficients of polynomials over a ring.
 use Rattle.std.proofs.Common.{◌≡◌, ℕ, zero, suc, ◌+◌, ◌<◌, ◌≤◌, sym, ap, ◌∙◌, ap₂, arith}
 use mathlib.Core.HLevel.{Discrete}
-use Rattle.algebra.specs.Ring.{Ring, ring, add-zero, mul-one, one-mul}
+use Rattle.algebra.specs.Ring.{Ring, ring, add_zero, mul_one, one_mul}
 use Rattle.algebra.specs.Divisors.{Divides}
 use Rattle.algebra.specs.Bounded.{Below}
 use Rattle.algebra.specs.Polynomial.{Poly, poly, size, size_least, size_unique}
@@ -23,7 +23,7 @@ module _ {E : Type 0} (R : Ring E) (eq : Discrete E) where
   size_nonzero p l e = let z = ap (size R) e ∙ size_of_zero R eq in absurd (omega arith)
 
   pub sum_size : (n : ℕ) (p q : Poly R) → size R p ≤ n → size R q ≤ n → size R (p ⊕ q) ≤ n
-  sum_size n p q l m = size_least R (p ⊕ q) n (λ k le. coef_add R eq p q k ∙ ap₂ R.add (below_size R eq p n l k le) (below_size R eq q n m k le) ∙ add-zero R _)
+  sum_size n p q l m = size_least R (p ⊕ q) n (λ k le. coef_add R eq p q k ∙ ap₂ R.add (below_size R eq p n l k le) (below_size R eq q n m k le) ∙ add_zero R _)
 
   pub difference_size : (n : ℕ) (p q : Poly R) → size R p ≤ n → size R q ≤ n → size R (p ⊕ ⊖ q) ≤ n
   difference_size n p q l m = size_least R (p ⊕ ⊖ q) n (below_difference R eq n p q (below_size R eq p n l) (below_size R eq q n m))
@@ -56,7 +56,7 @@ module _ {E : Type 0} (F : Field E) where
   pub factor_monic : (p q r : Poly K) → p ≡ q ⊙ r → Monic K p → Monic K r → Monic K q
   factor_monic p q r e m n =
       lead_monic q (left_nonzero (poly K eq) e ((monics F).nonzero p m))
-      (sym (mul-one K _) ∙ ap (K.mul (lead K q)) (sym (monic_lead r n)) ∙ sym (lead_product K eq (field_domain F) q r) ∙ ap (lead K) (sym e) ∙ monic_lead p m)
+      (sym (mul_one K _) ∙ ap (K.mul (lead K q)) (sym (monic_lead r n)) ∙ sym (lead_product K eq (field_domain F) q r) ∙ ap (lead K) (sym e) ∙ monic_lead p m)
 
   -- a divisor of a monic polynomial of the same size differs from it by its leading coefficient
   pub scaled : (d p : Poly K) → Divides (poly K eq) d p → size K d ≡ size K p → Monic K p → d ≡ number K eq (lead K d) ⊙ p
@@ -69,7 +69,7 @@ module _ {E : Type 0} (F : Field E) where
       let one_term : size K c ≡ 1 = omega arith in
       let c_is : c ≡ number K eq (c.0 0) = constant_is K eq c (omega arith) in
       let unit : K.mul (lead K d) (c.0 0) ≡ K.one = ap (K.mul (lead K d)) (sym (lead_at K eq c 0 one_term)) ∙ sym (lead_product K eq (field_domain F) d c) ∙ ap (lead K) (sym e) ∙ monic_lead p m in
-      sym (ap (λ x. number K eq (lead K d) ⊙ x) (e ∙ ap (λ x. d ⊙ x) c_is) ∙ law _ _ _ ∙ ap (λ x. x ⊙ d) (sym (number_mul K eq (lead K d) (c.0 0)) ∙ ap (number K eq) unit ∙ number_one K eq) ∙ one-mul (poly K eq) d)
+      sym (ap (λ x. number K eq (lead K d) ⊙ x) (e ∙ ap (λ x. d ⊙ x) c_is) ∙ law _ _ _ ∙ ap (λ x. x ⊙ d) (sym (number_mul K eq (lead K d) (c.0 0)) ∙ ap (number K eq) unit ∙ number_one K eq) ∙ one_mul (poly K eq) d)
     where
       law : (h d c : Poly K) → h ⊙ (d ⊙ c) ≡ h ⊙ c ⊙ d
       law h d c = simp ring

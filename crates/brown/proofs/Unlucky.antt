@@ -1,7 +1,7 @@
 -- How many points can make two polynomials share a divisor. More would give a linear system with more unknowns than equations, and its solution two multiples of the polynomials that cancel, but are too small to.
 use Rattle.std.proofs.Common.{◌≡◌, ℕ, zero, suc, ◌+◌, ◌-◌, ◌*◌, ◌<◌, ◌≤◌, ◌⊎◌, List, [], ◌∷◌, length, sym, refl, ap, ◌∙◌, ap₂, inl, inr, mul-le-mul_left, arith}
 use native.Mathlib.Decide.{dec_le, ℕ_discrete}
-use Rattle.algebra.specs.Ring.{ring, combine, zero-mul, zero_add}
+use Rattle.algebra.specs.Ring.{ring, combine, zero_mul, zero_add}
 use Rattle.algebra.specs.Solver.{by_ring, quoting}
 use Rattle.algebra.specs.Divisors.{Divides}
 use Rattle.algebra.specs.Series.{Series, sadd, scale}
@@ -72,7 +72,7 @@ module _ {E : Type 0} (F : Field E) where
           zero_if (no n) = absurd (omega (arith, small, divisor_size (poly K eq) (poly_discrete K eq) (domain_y F) B (P ⊠ lift F c.δ) multiple (mul_nonzero (poly₂ K eq) (domain_yx F) n (lift_nonzero F c.δ c.nonzero))))
 
       QB : Q ⊠ B ≡ 𝟎
-      QB = sym (rw (P_zero, zero-mul (poly₂ K eq) A) (zero_add (poly₂ K eq) (Q ⊠ B))) ∙ e
+      QB = sym (rw (P_zero, zero_mul (poly₂ K eq) A) (zero_add (poly₂ K eq) (Q ⊠ B))) ∙ e
 
       go : Dec (Q ≡ 𝟎) → Q ≡ 𝟎
       go (yes z) = z
@@ -183,7 +183,7 @@ module _ {E : Type 0} (F : Field E) (A B : K[y][x] F) (r s a b : ℕ) where
       product_within X Y n w d l lX lY (inl h) k = within_mul F w (suc d) (length αs) X Y lX lY (omega arith) k
       product_within X Y n w d l lX lY (inr h) k =
           let z : X ≡ 𝟎 = size_zero (poly K eq) (poly_discrete K eq) X (omega arith) in
-          rw (z, zero-mul (poly₂ K eq) Y, coef_zero (poly K eq) (poly_discrete K eq) k, size_of_zero K eq) (omega arith)
+          rw (z, zero_mul (poly₂ K eq) Y, coef_zero (poly K eq) (poly_discrete K eq) k, size_of_zero K eq) (omega arith)
 
       H_within : (c : Series E) → Within F (length αs) (H c)
       H_within c k =

@@ -11,7 +11,7 @@ use Rattle.std.specs.declared.result.Result.{Result}
 use Rattle.std.specs.declared.result.Result.TheVariants.{Ok, Err}
 use Rattle.coefficients.specs.Arithmetic.{Arithmetic, Laws}
 use Rattle.coefficients.specs.declared.kind.ReciprocalFault.{ReciprocalFault}
-use Rattle.algebra.specs.Ring.{Ring, mul-zero, mul_comm}
+use Rattle.algebra.specs.Ring.{Ring, mul_zero, mul_comm}
 use Rattle.algebra.specs.Divisors.{Divides, Greatest}
 use Rattle.algebra.specs.Series.{series}
 use Rattle.algebra.specs.Polynomial.{size, same, of_mul}
@@ -98,7 +98,7 @@ module _ {K : Arithmetic} (laws : Laws K) where
       where
         at : (k : ℕ) → (k < length g) ⊎ (length g ≤ k) → coefficients lw g' k ≡ (series (elements lw)).mul (mono (elements lw) (d, di) 0) (coefficients lw g) k
         at k (inl lt) = element_same K (code_at lw g' k hg' (omega arith) ∙ e k lt ∙ ap (K.product d) (sym (code_at lw g k hg lt)) ∙ sym (code_mul lw (d, di) (coefficients lw g k))) ∙ sym (mono_mul (elements lw) (d, di) 0 (coefficients lw g) k k (omega arith))
-        at k (inr le) = past_end lw g' k (omega arith) ∙ sym (mono_mul (elements lw) (d, di) 0 (coefficients lw g) k k (omega arith) ∙ rw (past_end lw g k le) (mul-zero (elements lw) (d, di)))
+        at k (inr le) = past_end lw g' k (omega arith) ∙ sym (mono_mul (elements lw) (d, di) 0 (coefficients lw g) k k (omega arith) ∙ rw (past_end lw g k le) (mul_zero (elements lw) (d, di)))
 
     pub scaled_normal : (lw : Laws K) → NormalOf lw f f'
     scaled_normal lw = record {

@@ -5,7 +5,7 @@ use Rattle.coefficients.specs.Arithmetic.{Arithmetic, Laws}
 use Rattle.coefficients.specs.Reciprocal.{Reciprocal}
 use Rattle.coefficients.specs.declared.kind.ReciprocalFault.{ReciprocalFault}
 use Rattle.coefficients.specs.declared.kind.ReciprocalFault.TheVariants.{Foreign, NoReciprocal}
-use Rattle.algebra.specs.Ring.{mul-zero}
+use Rattle.algebra.specs.Ring.{mul_zero}
 use Rattle.polynomials.specs.Elements.{Element, elements}
 use Rattle.polynomials.specs.Rows.{Inside, Sized}
 use Rattle.polynomials.specs.Steps.{Inverts, NoInverse, Undivided, Stuck, leading}
@@ -17,7 +17,7 @@ leading_at K g (suc n) lt = let e : suc n - 1 ≡ n = omega arith in ap (λ i. g
 module _ {K : Arithmetic} (laws : Laws K) where
   pub zero_product : (a : ℕ) → K.element a ≡ true → K.product K.zero a ≡ K.zero
   unfolding elements
-  zero_product a h = laws.product_comm _ _ ∙ ap (λ (x : Element K). x.0) (mul-zero (elements laws) (a, h))
+  zero_product a h = laws.product_comm _ _ ∙ ap (λ (x : Element K). x.0) (mul_zero (elements laws) (a, h))
 
   -- a product that is one has elements for factors
   pub factor_in : (a r : ℕ) → K.product a r ≡ K.one → K.element r ≡ true

@@ -4,7 +4,7 @@ use mathlib.Core.Path.{fun_ext}
 use Rattle.std.proofs.lemmas.List.{get_or_past, get_or_default}
 use Rattle.std.proofs.lemmas.Bool.{cond-true, cases_lt, cases_eq}
 use Rattle.coefficients.specs.Arithmetic.{Arithmetic, Laws}
-use Rattle.algebra.specs.Ring.{ring, neg_zero, mul-zero, add-zero, zero_add}
+use Rattle.algebra.specs.Ring.{ring, neg_zero, mul_zero, add_zero, zero_add}
 use Rattle.algebra.specs.Series.{Series, series, at_add, at_neg, at_zero}
 use Rattle.algebra.specs.Bounded.{Below}
 use Rattle.algebra.specs.Polynomial.{Poly, size, make_is, same, size_unique, of_add, of_neg, of_mul, of_zero, Tight}
@@ -113,7 +113,7 @@ module _ {K : Arithmetic} (laws : Laws K) where
             let j : ℕ = k - s in
             let e : k ≡ s + j = omega arith in
             let z : coefficients laws g j ≡ 𝟘 = none j (omega arith) in
-            nothing (mono_mul (elements laws) (c, ci) s (coefficients laws g) j k e ∙ rw z (mul-zero (elements laws) (c, ci))) (L.above k over)
+            nothing (mono_mul (elements laws) (c, ci) s (coefficients laws g) j k e ∙ rw z (mul_zero (elements laws) (c, ci))) (L.above k over)
           where
             none : (j : ℕ) → n ≤ j → coefficients laws g j ≡ 𝟘
             none j le = far (cases_lt j (length g))
@@ -153,7 +153,7 @@ module _ {K : Arithmetic} (laws : Laws K) where
 
       by : (k : ℕ) → (k ≡ s) ⊎ (k ≢ s) → coefficients laws (set q s c) k ≡ coefficients laws q k ⊕ m k
       by k (inl e) = rw (e, mono_at (elements laws) (c, ci) s, zero_at q s z) (element_same K (ap (λ i. cond (K.element i) i K.zero) (get_or-set_same q s c K.zero lt) ∙ cond-true _ _ _ ci) ∙ sym (zero_add (elements laws) (c, ci)))
-      by k (inr ne) = same_at (set q s c) q k (length-set q s c) (get_or-set_other q s k c 0 ne) ∙ rw (beside k ne) (sym (add-zero (elements laws) _))
+      by k (inr ne) = same_at (set q s c) q k (length-set q s c) (get_or-set_other q s k c 0 ne) ∙ rw (beside k ne) (sym (add_zero (elements laws) _))
 
       at : (k : ℕ) → coefficients laws (set q s c) k ≡ (coefficients laws q ⊞ m) k
       at k = by k (cases_eq k s) ∙ sym (at_add _ _ _ k)

@@ -3,7 +3,7 @@ use Rattle.std.proofs.Common.{◌≡◌, ℕ, zero, suc, ◌+◌, ◌<◌, ◌�
 use Rattle.std.proofs.lemmas.Bool.{cond-true}
 use Rattle.coefficients.specs.Arithmetic.{Arithmetic, Laws}
 use Rattle.coefficients.specs.Dot.{dot_of}
-use Rattle.algebra.specs.Ring.{Ring, ring, mul-zero}
+use Rattle.algebra.specs.Ring.{Ring, ring, mul_zero}
 use Rattle.algebra.specs.Solver.{by_ring, quoting}
 use Rattle.algebra.specs.Value.{value as value_of_lem, value_none, value_suc}
 use Rattle.algebra.specs.Polynomial.{at, at_of}
@@ -37,7 +37,7 @@ module _ {K : Arithmetic} (laws : Laws K) (x : ℕ) where
     dot_value : (l ps : List ℕ) (i : ℕ) → Inside K l → length l ≤ length ps → ((k : ℕ) → k < length ps → get_or ps k 0 ≡ power_of K x (i + k)) →
         dot_of K l ps ≡ ((elements laws).mul (power i) (value_of_lem (elements laws) (length l) (read laws x) (coefficients laws l))).0
     unfolding elements dot_of power power_of
-    dot_value [] ps i hl le hp = ap (λ (a : Element K). a.0) (sym (ap ((elements laws).mul (power i)) (value_none (elements laws) _ _) ∙ mul-zero (elements laws) (power i)))
+    dot_value [] ps i hl le hp = ap (λ (a : Element K). a.0) (sym (ap ((elements laws).mul (power i)) (value_none (elements laws) _ _) ∙ mul_zero (elements laws) (power i)))
     dot_value (c ∷ l) [] i hl le hp = absurd (omega arith)
     dot_value (c ∷ l) (p ∷ ps) i hl le hp =
         let X : Element K = read laws x in

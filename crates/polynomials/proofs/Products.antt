@@ -4,7 +4,7 @@ use mathlib.Core.Path.{fun_ext}
 use Rattle.std.proofs.lemmas.List.{get_or_default}
 use Rattle.std.proofs.lemmas.Bool.{cases_lt, cases_eq, cond-true}
 use Rattle.coefficients.specs.Arithmetic.{Arithmetic, Laws}
-use Rattle.algebra.specs.Ring.{zero-mul, mul-zero, add-zero, zero_add, neg_zero}
+use Rattle.algebra.specs.Ring.{zero_mul, mul_zero, add_zero, zero_add, neg_zero}
 use Rattle.algebra.specs.Series.{series, at_add, at_neg}
 use Rattle.algebra.specs.Polynomial.{Poly, same, of_add, of_neg}
 use Rattle.algebra.specs.Solver.{by_ring, quoting}
@@ -64,7 +64,7 @@ module _ {K : Arithmetic} (laws : Laws K) where
       by k (inl e) =
           let short = long i (omega arith) in
           rw (e, mono_at (elements laws) c i, past_end laws (take i a) i (omega arith)) (read_at (i + 1) i (omega arith) (omega arith) ∙ element_same K (ap (λ n. cond (K.element n) n K.zero) (get_or_default a i K.zero 0 lt) ∙ cond-true _ _ _ ci) ∙ sym (zero_add (elements laws) c))
-      by k (inr ne) = rw (beside k ne) (other (cases_lt k i) ∙ sym (add-zero (elements laws) _))
+      by k (inr ne) = rw (beside k ne) (other (cases_lt k i) ∙ sym (add_zero (elements laws) _))
         where
           other : (k < i) ⊎ (i ≤ k) → coefficients laws (take (i + 1) a) k ≡ coefficients laws (take i a) k
           other (inl l) = read_at (i + 1) k (omega arith) (omega arith) ∙ sym (read_at i k l (omega arith))
@@ -135,7 +135,7 @@ module _ {K : Arithmetic} (laws : Laws K) where
 pub multiplying_none : (K : Arithmetic) → Laws K → (a b p : List ℕ) → ((i : ℕ) → i < length p → get_or p i 0 ≡ K.zero) → Multiplying K a b p 0
 multiplying_none K laws a b p z = record {
   inside = λ i lt. ap K.element (z i lt) ∙ laws.zero_in;
-  is = λ lw ha hb. cleared lw p z ∙ sym (ap (λ q. (polynomials lw).mul q (polynomial lw b)) (empty_row lw) ∙ zero-mul (polynomials lw) _);
+  is = λ lw ha hb. cleared lw p z ∙ sym (ap (λ q. (polynomials lw).mul q (polynomial lw b)) (empty_row lw) ∙ zero_mul (polynomials lw) _);
 }
 
 pub multiplying_more : (K : Arithmetic) → Laws K → (a b p p' : List ℕ) (i n negative : ℕ) → i < length a → length p' ≡ length p → i + n ≤ length p → Sized K b n → negative ≡ K.difference K.zero (get_or a i 0) → Lessened K p p' i negative b n → Multiplying K a b p i → Multiplying K a b p' (i + 1)
@@ -150,4 +150,4 @@ multiplied K a b p n s m ha hb = (m.inside, λ lw. m.is lw ha hb ∙ ap (λ q. (
 -- a product with zero
 pub multiplied_zero : (K : Arithmetic) → Laws K → (a b p : List ℕ) → Sized K b 0 → ((i : ℕ) → i < length p → get_or p i 0 ≡ K.zero) → Multiplied K a b p p true
 multiplied_zero K laws a b p s z ha hb =
-    (λ i lt. ap K.element (z i lt) ∙ laws.zero_in, λ lw. cleared lw p z ∙ sym (ap ((polynomials lw).mul (polynomial lw a)) (cleared lw b (λ i lt. s.zeros i zero-le lt)) ∙ mul-zero (polynomials lw) _))
+    (λ i lt. ap K.element (z i lt) ∙ laws.zero_in, λ lw. cleared lw p z ∙ sym (ap ((polynomials lw).mul (polynomial lw a)) (cleared lw b (λ i lt. s.zeros i zero-le lt)) ∙ mul_zero (polynomials lw) _))

@@ -1,7 +1,7 @@
 -- c times a power of the unknown.
 use Rattle.std.proofs.Common.{◌≡◌, ℕ, zero, suc, ◌+◌, ◌<◌, ◌≤◌, sym, refl, ap, ◌∙◌, arith}
 use mathlib.Core.HLevel.{Discrete}
-use Rattle.algebra.specs.Ring.{Ring, ring, zero-mul, zero_add}
+use Rattle.algebra.specs.Ring.{Ring, ring, zero_mul, zero_add}
 use Rattle.algebra.specs.Series.{Series, series, const, cons, cons_zero, cons_suc, tail, tail_cons, at_const, at_const_mul, at_mul, at_mul_suc}
 use Rattle.algebra.specs.Bounded.{Below, below_const, below_cons}
 use Rattle.algebra.specs.Polynomial.{Poly, make, make_is}
@@ -37,12 +37,12 @@ module _ {E : Type 0} (R : Ring E) where
   unfolding mono
   mono_mul c zero f k n e = let z : n ≡ k = omega arith in rw z (at_const_mul R c f k)
   mono_mul c (suc s) f k zero e = absurd (omega arith)
-  mono_mul c (suc s) f k (suc n) e = at_mul_suc R (cons 𝟘 (mono c s)) f n ∙ rw (cons_zero 𝟘 (mono c s), tail_cons 𝟘 (mono c s), mono_mul c s f k n (omega arith)) (rw (zero-mul R (f (suc n))) (zero_add R _))
+  mono_mul c (suc s) f k (suc n) e = at_mul_suc R (cons 𝟘 (mono c s)) f n ∙ rw (cons_zero 𝟘 (mono c s), tail_cons 𝟘 (mono c s), mono_mul c s f k n (omega arith)) (rw (zero_mul R (f (suc n))) (zero_add R _))
 
   pub mono_mul_under : (c : E) (s : ℕ) (f : Series E) (n : ℕ) → n < s → (mono c s ⊠ f) n ≡ 𝟘
   unfolding mono
   mono_mul_under c zero f n lt = absurd (omega arith)
-  mono_mul_under c (suc s) f zero lt = at_mul R (cons 𝟘 (mono c s)) f ∙ rw (cons_zero 𝟘 (mono c s)) (zero-mul R _)
+  mono_mul_under c (suc s) f zero lt = at_mul R (cons 𝟘 (mono c s)) f ∙ rw (cons_zero 𝟘 (mono c s)) (zero_mul R _)
   mono_mul_under c (suc s) f (suc n) lt = at_mul_suc R (cons 𝟘 (mono c s)) f n ∙ rw (cons_zero 𝟘 (mono c s), tail_cons 𝟘 (mono c s), mono_mul_under c s f n (omega arith)) (simp ring)
 
   module _ (eq : Discrete E) where

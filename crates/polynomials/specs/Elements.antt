@@ -35,12 +35,12 @@ module _ {K : Arithmetic} (laws : Laws K) where
     mul = λ a b. (K.product a.0 b.0, laws.product_in _ _);
     add_assoc = λ a b c. element_same K (laws.sum_assoc _ _ _ a.1 b.1 c.1);
     add_comm = λ a b. element_same K (laws.sum_comm _ _);
-    add-zero = λ a. element_same K (laws.sum_comm _ _ ∙ laws.sum_zero _ a.1);
+    add_zero = λ a. element_same K (laws.sum_comm _ _ ∙ laws.sum_zero _ a.1);
     add_neg = λ a. element_same K (laws.sum_comm _ _ ∙ laws.less_sum _ _ laws.zero_in a.1);
     mul_assoc = λ a b c. element_same K (laws.product_assoc _ _ _ a.1 b.1 c.1);
     mul_comm = λ a b. element_same K (laws.product_comm _ _);
-    mul-one = λ a. element_same K (laws.product_comm _ _ ∙ laws.product_one _ a.1);
-    mul-add = λ a b c. element_same K (laws.distributes _ _ _ a.1 b.1 c.1);
+    mul_one = λ a. element_same K (laws.product_comm _ _ ∙ laws.product_one _ a.1);
+    mul_add = λ a b c. element_same K (laws.distributes _ _ _ a.1 b.1 c.1);
   }
 
   -- where only zero lacks a reciprocal the elements are a field

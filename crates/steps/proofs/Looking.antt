@@ -3,7 +3,7 @@ use Rattle.std.proofs.Common.{◌≡◌, ℕ, pred, ◌<◌, ◌≤◌, true, �
 use mathlib.Core.Path.{fun_ext}
 use Rattle.std.proofs.lemmas.Bool.{cases_lt}
 use Rattle.coefficients.specs.Arithmetic.{Arithmetic, Laws, IsField}
-use Rattle.algebra.specs.Ring.{mul-zero}
+use Rattle.algebra.specs.Ring.{mul_zero}
 use Rattle.algebra.specs.Field.{Field}
 use Rattle.algebra.specs.Polynomial.{Poly, same, at}
 use Rattle.algebra.specs.Change.{number}
@@ -38,7 +38,7 @@ scaled {K = K} laws v vi g g' hg hg' len e =
   where
     place : (k : ℕ) → (k < length g) ⊎ (length g ≤ k) → coefficients laws g' k ≡ (elements laws).mul (read laws v) (coefficients laws g k)
     place k (inl lt) = element_same K (code_at laws g' k hg' (omega arith) ∙ e k lt ∙ sym (code_mul laws (read laws v) (coefficients laws g k) ∙ ap (λ x. K.product x (coefficients laws g k).0) (code_read laws v vi) ∙ ap (K.product v) (code_at laws g k hg lt)))
-    place k (inr le) = past_end laws g' k (omega arith) ∙ sym (ap ((elements laws).mul (read laws v)) (past_end laws g k le) ∙ mul-zero (elements laws) (read laws v))
+    place k (inr le) = past_end laws g' k (omega arith) ∙ sym (ap ((elements laws).mul (read laws v)) (past_end laws g k le) ∙ mul_zero (elements laws) (read laws v))
 
 pub scaled_in : {K : Arithmetic} → Laws K → (v : ℕ) (g g' : List ℕ) → length g' ≡ length g → ((i : ℕ) → i < length g → get_or g' i 0 ≡ K.product v (get_or g i 0)) → Inside K g'
 scaled_in {K = K} laws v g g' len e i lt = ap K.element (e i (omega arith)) ∙ laws.product_in _ _

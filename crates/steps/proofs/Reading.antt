@@ -6,7 +6,7 @@ use lib.ListN.{length-replicate, get_or-replicate}
 use Rattle.std.proofs.lemmas.List.{take-take}
 use Rattle.std.proofs.lemmas.Bool.{cases_lt}
 use Rattle.coefficients.specs.Arithmetic.{Arithmetic, Laws, IsField}
-use Rattle.algebra.specs.Ring.{mul_comm, one-mul}
+use Rattle.algebra.specs.Ring.{mul_comm, one_mul}
 use Rattle.algebra.specs.Solver.{by_ring, quoting}
 use Rattle.algebra.specs.Divisors.{Divides, Greatest}
 use Rattle.algebra.specs.Field.{Field}
@@ -267,7 +267,7 @@ module _ (K : Arithmetic) (z o : ℕ) (z_is : z ≡ K.zero) (o_is : o ≡ K.one)
         }
       where
         by_one : (X : Poly₂ (elements laws) (element_discrete K)) → X ≡ (poly₂ (elements laws) (element_discrete K)).mul (table laws unit) X
-        by_one X = sym (ap (λ U. (poly₂ (elements laws) (element_discrete K)).mul U X) unit_is ∙ one-mul (poly₂ (elements laws) (element_discrete K)) X)
+        by_one X = sym (ap (λ U. (poly₂ (elements laws) (element_discrete K)).mul U X) unit_is ∙ one_mul (poly₂ (elements laws) (element_discrete K)) X)
 
 -- what a content refuses, of rows that do not mean zero over a field
 pub content_refused : {K : Arithmetic} (laws : Laws K) (t held d p : List ℕ) (e : DivisionFault) → Inside K t → (IsField K → ¬ (polynomial_xy laws 32 t ≡ (poly₂ (elements laws) (element_discrete K)).zero)) → Tables.Parting K 32 t held d p (Err e) → Faulty K e

@@ -3,7 +3,7 @@ use Rattle.std.proofs.Common.{◌≡◌, ℕ, zero, suc, List, Ok, Err, sym, ap,
 use Rattle.coefficients.specs.Arithmetic.{Arithmetic, Laws, IsField}
 use Rattle.coefficients.specs.declared.kind.ReciprocalFault.{ReciprocalFault}
 use Rattle.coefficients.specs.declared.kind.ReciprocalFault.TheVariants.{NoReciprocal}
-use Rattle.algebra.specs.Ring.{zero-mul}
+use Rattle.algebra.specs.Ring.{zero_mul}
 use Rattle.algebra.specs.Divisors.{Divides}
 use Rattle.polynomials.specs.Elements.{polynomial, polynomials}
 use Rattle.polynomials.specs.Relations.{MonicGcd}
@@ -24,7 +24,7 @@ stuck_faulty e (c, is, s) = (s.no_field, (c, is, s.inside, s.none))
 
 -- zero divides only zero
 divided_zero : {K : Arithmetic} (laws : Laws K) (a b d : List ℕ) → MonicGcd laws a b d → polynomial laws d ≡ (polynomials laws).zero → polynomial laws a ≡ (polynomials laws).zero
-divided_zero laws a b d m z = let (q, e) = m.greatest.left in e ∙ ap (λ x. (polynomials laws).mul x q) z ∙ zero-mul (polynomials laws) q
+divided_zero laws a b d m z = let (q, e) = m.greatest.left in e ∙ ap (λ x. (polynomials laws).mul x q) z ∙ zero_mul (polynomials laws) q
 
 -- the leading coefficient of what is shared has no reciprocal
 pub lead_refused : {K : Arithmetic} (laws : Laws K) (a b d rest : List ℕ) (m n : ℕ) (e : ReciprocalFault) → Common K a b d rest (Ok m) → Sized K d n → Undivided K d e → Sharing K a b (Err (Reciprocal e))

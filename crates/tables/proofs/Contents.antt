@@ -3,7 +3,7 @@ use Rattle.std.proofs.Common.{◌≡◌, ℕ, ◌+◌, ◌*◌, ◌<◌, ◌≤�
 use Rattle.std.proofs.lemmas.Bool.{cases_lt}
 use Rattle.coefficients.specs.Arithmetic.{Arithmetic, Laws}
 use Rattle.coefficients.specs.declared.kind.ReciprocalFault.{ReciprocalFault}
-use Rattle.algebra.specs.Ring.{one-mul}
+use Rattle.algebra.specs.Ring.{one_mul}
 use Rattle.algebra.specs.Divisors.{Divides}
 use Rattle.algebra.specs.Lead.{Normal}
 use Rattle.algebra.specs.Polynomial.{Poly, size}
@@ -83,7 +83,7 @@ module _ (K : Arithmetic) (w : ℕ) (t : List ℕ) where
 
     -- one divides every row
     pub gathered_one : i ≤ 16 → n ≡ 1 → Gathering K w t d (Ok n)
-    gathered_one le e = whole (λ lw h k far near. (polynomial lw (cut_row w t k), sym (ap (λ x. (polynomials lw).mul x (polynomial lw (cut_row w t k))) (one lw h) ∙ one-mul (polynomials lw) _))) le
+    gathered_one le e = whole (λ lw h k far near. (polynomial lw (cut_row w t k), sym (ap (λ x. (polynomials lw).mul x (polynomial lw (cut_row w t k))) (one lw h) ∙ one_mul (polynomials lw) _))) le
       where
         one : (lw : Laws K) → Inside K t → polynomial lw d ≡ (polynomials lw).one
         one lw h =

@@ -5,7 +5,7 @@ use Rattle.coefficients.specs.Arithmetic.{Arithmetic, Laws}
 use Rattle.coefficients.specs.Reciprocal.{Refused}
 use Rattle.coefficients.specs.declared.kind.ReciprocalFault.{ReciprocalFault}
 use Rattle.coefficients.specs.declared.kind.ReciprocalFault.TheVariants.{Foreign, NoReciprocal}
-use Rattle.algebra.specs.Ring.{Ring, combine, add_assoc, neg_add, add-zero}
+use Rattle.algebra.specs.Ring.{Ring, combine, add_assoc, neg_add, add_zero}
 use Rattle.algebra.specs.Solver.{by_ring, quoting}
 use Rattle.algebra.specs.Polynomial.{Poly, same, at, evaluate}
 use Rattle.algebra.specs.Change.{number, of_number, at_number}
@@ -41,7 +41,7 @@ module _ {K : Arithmetic} (laws : Laws K) where
       ∙ ap value (ap (λ p. p ⊹ number R eq a ⋆ m) e ∙ back f (number R eq a ⋆ m))
     where
       back : (f d : Poly (elements laws)) → f ⊹ ⁻ d ⊹ d ≡ f
-      back f d = add_assoc (polynomials laws) _ _ _ ∙ ap (λ p. f ⊹ p) (neg_add (polynomials laws) d) ∙ add-zero (polynomials laws) f
+      back f d = add_assoc (polynomials laws) _ _ _ ∙ ap (λ p. f ⊹ p) (neg_add (polynomials laws) d) ∙ add_zero (polynomials laws) f
 
   pub term_number : (a : Element K) → term (elements laws) (element_discrete K) a 0 ≡ number (elements laws) (element_discrete K) a
   unfolding mono

@@ -7,7 +7,7 @@ use Rattle.std.proofs.lemmas.List.{get_or_append_left, get_or-append_right}
 use Rattle.std.proofs.lemmas.Slice.{between_is, between-put_mid, take-put_mid_below}
 use Rattle.std.proofs.lemmas.Bool.{cases_lt}
 use Rattle.coefficients.specs.Arithmetic.{Arithmetic, Laws}
-use Rattle.algebra.specs.Ring.{Ring, combine, mul_comm as commute, mul-zero, add-zero}
+use Rattle.algebra.specs.Ring.{Ring, combine, mul_comm as commute, mul_zero, add_zero}
 use Rattle.algebra.specs.Solver.{by_ring, quoting}
 use Rattle.algebra.specs.Divisors.{Divides, Invertible}
 use Rattle.algebra.specs.Lead.{lead}
@@ -39,7 +39,7 @@ module _ {E : Type 0} (R : Ring E) (eq : Discrete E) where
       gone a b v p q = combine R b p (combine R v q (by_ring R (a ∷ b ∷ v ∷ []) (search quoting depth 30) tt))
 
       go : (n : ℕ) → size R g ≡ n → Dec (u ≡ O) → r ≡ O
-      go n s (yes z) = e ∙ ap (λ x. g ⋆ x) z ∙ mul-zero (poly R eq) g
+      go n s (yes z) = e ∙ ap (λ x. g ⋆ x) z ∙ mul_zero (poly R eq) g
       go zero s (no k) = absurd (omega arith)
       go (suc a) s (no k) =
           let l = leading R eq u k in
@@ -72,7 +72,7 @@ module _ {K : Arithmetic} (laws : Laws K) where
         omega arith
 
     pub even_is : ZeroRow K r → polynomial laws f ≡ (polynomials laws).mul (polynomial laws g) (polynomial laws q)
-    even_is z = d.is ∙ ap ((polynomials laws).add ((polynomials laws).mul (polynomial laws q) (polynomial laws g))) (cleared laws r z) ∙ add-zero (polynomials laws) _ ∙ commute (polynomials laws) _ _
+    even_is z = d.is ∙ ap ((polynomials laws).add ((polynomials laws).mul (polynomial laws q) (polynomial laws g))) (cleared laws r z) ∙ add_zero (polynomials laws) _ ∙ commute (polynomials laws) _ _
 
     pub uneven_is : (m : ℕ) → Inside K r → Sized K r m → (m ≡ 0 → ⊥) → Exact laws g → Divides (polynomials laws) (polynomial laws g) (polynomial laws f) → ⊥
     uneven_is m h s n x k =
@@ -161,4 +161,4 @@ divided_all K w t g q i long along e u ht hg = (u.inside ht hg, λ lw. record { 
   where
     row : (lw : Laws K) (j : ℕ) → (j < 16) ⊎ (16 ≤ j) → (polynomial_xy lw w t).0 j ≡ (polynomials lw).mul (polynomial lw g) ((polynomial_xy lw w q).0 j)
     row lw j (inl lt) = of_rows lw w t j ∙ u.is lw ht hg j (omega arith) ∙ ap ((polynomials lw).mul (polynomial lw g)) (sym (of_rows lw w q j))
-    row lw j (inr far) = of_past lw w t j long far ∙ sym (ap ((polynomials lw).mul (polynomial lw g)) (of_past lw w q j (along ∙ long) far) ∙ mul-zero (polynomials lw) _)
+    row lw j (inr far) = of_past lw w t j long far ∙ sym (ap ((polynomials lw).mul (polynomial lw g)) (of_past lw w q j (along ∙ long) far) ∙ mul_zero (polynomials lw) _)

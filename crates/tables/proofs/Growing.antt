@@ -3,7 +3,7 @@ use Rattle.std.proofs.Common.{◌≡◌, ℕ, zero, suc, ◌+◌, ◌<◌, ◌�
 use mathlib.Core.Path.{fun_ext}
 use Rattle.std.proofs.lemmas.Bool.{cond-true, cases_lt, cases_eq}
 use Rattle.coefficients.specs.Arithmetic.{Arithmetic, Laws}
-use Rattle.algebra.specs.Ring.{Ring, ring, one-mul}
+use Rattle.algebra.specs.Ring.{Ring, ring, one_mul}
 use Rattle.algebra.specs.Series.{Series, series, cons, cons_zero, cons_suc, cons_mul, at_add, at_const_mul}
 use Rattle.algebra.specs.Polynomial.{size, same, of_mul}
 use Rattle.algebra.specs.Change.{of_linear}
@@ -51,7 +51,7 @@ module _ {E : Type 0} (R : Ring E) where
   linear_mul x f k =
       ap (λ g. g k) (cons_mul R (⊖ x) 𝟏 f)
       ∙ at_add R _ _ k
-      ∙ ap₂ ◌⊕◌ (at_const_mul R (⊖ x) f k) (ap (λ g. cons 𝟘 g k) (one-mul (series R) f))
+      ∙ ap₂ ◌⊕◌ (at_const_mul R (⊖ x) f k) (ap (λ g. cons 𝟘 g k) (one_mul (series R) f))
       ∙ turned x (f k) (cons 𝟘 f k)
     where
       turned : (x a b : E) → ⊖ x ⊙ a ⊕ b ≡ b ⊕ ⊖ (x ⊙ a)

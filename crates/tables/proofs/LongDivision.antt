@@ -5,7 +5,7 @@ use mathlib.Core.HLevel.{Discrete}
 use Rattle.std.proofs.lemmas.Bool.{cases_lt, cases_eq}
 use Rattle.coefficients.specs.Arithmetic.{Arithmetic, Laws, IsField}
 use Rattle.coefficients.specs.declared.kind.ReciprocalFault.TheVariants.{NoReciprocal}
-use Rattle.algebra.specs.Ring.{Ring, combine, mul-zero, neg_zero, add-zero, zero_add}
+use Rattle.algebra.specs.Ring.{Ring, combine, mul_zero, neg_zero, add_zero, zero_add}
 use Rattle.algebra.specs.Solver.{by_ring, quoting}
 use Rattle.algebra.specs.Series.{series}
 use Rattle.algebra.specs.Divisors.{Divides}
@@ -61,8 +61,8 @@ module _ {E : Type 0} (F : Field E) where
 
       go : Dec (S ≡ 𝟎) → A.0 (m + s) ≡ B.0 m ⊙ S.0 s
       go (yes z) =
-          ap (λ (X : K[y][x] F). X.0 (m + s)) (e ∙ ap (λ X. B ⊠ X) z ∙ mul-zero (poly₂ K eq) B) ∙ coef_zero (poly K eq) (poly_discrete K eq) (m + s)
-          ∙ sym (ap (λ x. B.0 m ⊙ x) (ap (λ (X : K[y][x] F). X.0 s) z ∙ coef_zero (poly K eq) (poly_discrete K eq) s) ∙ mul-zero (poly K eq) _)
+          ap (λ (X : K[y][x] F). X.0 (m + s)) (e ∙ ap (λ X. B ⊠ X) z ∙ mul_zero (poly₂ K eq) B) ∙ coef_zero (poly K eq) (poly_discrete K eq) (m + s)
+          ∙ sym (ap (λ x. B.0 m ⊙ x) (ap (λ (X : K[y][x] F). X.0 s) z ∙ coef_zero (poly K eq) (poly_discrete K eq) s) ∙ mul_zero (poly K eq) _)
       go (no n) =
           let a = size_x_product F B S nonzero n in
           let b = ap (size (poly K eq)) e in
@@ -75,7 +75,7 @@ module _ {E : Type 0} (F : Field E) where
       let S = X ⊞ ⊟ Q in
       let t = top_factor A B S m s sb (rest_multiple (poly₂ K eq) A₀ B Q A X e d) below in
       let same : f ≡ S.0 s = cancel_y F lead (sym is ∙ t) in
-      let here : S.0 s ≡ X.0 s = coef_add (poly K eq) (poly_discrete K eq) X (⊟ Q) s ∙ ap (λ x. X.0 s ⊕ x) (coef_neg (poly K eq) (poly_discrete K eq) Q s ∙ ap ⊖◌ free ∙ neg_zero (poly K eq)) ∙ add-zero (poly K eq) _ in
+      let here : S.0 s ≡ X.0 s = coef_add (poly K eq) (poly_discrete K eq) X (⊟ Q) s ∙ ap (λ x. X.0 s ⊕ x) (coef_neg (poly K eq) (poly_discrete K eq) Q s ∙ ap ⊖◌ free ∙ neg_zero (poly K eq)) ∙ add_zero (poly K eq) _ in
       let sf : size K f ≡ size K (X.0 s) = ap (size K) (same ∙ here) in
       let a = within_width F X s in
       let b = within_width F B j in
@@ -116,7 +116,7 @@ module _ (K : Arithmetic) (w : ℕ) (t₀ b : List ℕ) (n : ℕ) (lt : length t
   division_none laws q z = record {
     within = omega arith;
     inside = λ ht hb. (ht, λ i l. ap K.element (z i l) ∙ laws.zero_in);
-    is = λ lw ht hb. sym (ap (λ Q. (poly₂ (elements lw) (element_discrete K)).add ((poly₂ (elements lw) (element_discrete K)).mul (polynomial_xy lw w b) Q) (polynomial_xy lw w t₀)) (none lw) ∙ ap (λ X. (poly₂ (elements lw) (element_discrete K)).add X (polynomial_xy lw w t₀)) (mul-zero (poly₂ (elements lw) (element_discrete K)) _) ∙ zero_add (poly₂ (elements lw) (element_discrete K)) _);
+    is = λ lw ht hb. sym (ap (λ Q. (poly₂ (elements lw) (element_discrete K)).add ((poly₂ (elements lw) (element_discrete K)).mul (polynomial_xy lw w b) Q) (polynomial_xy lw w t₀)) (none lw) ∙ ap (λ X. (poly₂ (elements lw) (element_discrete K)).add X (polynomial_xy lw w t₀)) (mul_zero (poly₂ (elements lw) (element_discrete K)) _) ∙ zero_add (poly₂ (elements lw) (element_discrete K)) _);
     below = λ lw ht hb k far. of_past lw w t₀ k lt far;
     free = λ lw ht hb k le. rows_zero lw w q z k;
   }
@@ -161,7 +161,7 @@ module _ (K : Arithmetic) (w : ℕ) (t₀ b : List ℕ) (n : ℕ) (lt : length t
           at k (inl e) =
               ap (polynomial_xy lw w q').0 e ∙ c.here
               ∙ sym (ap (λ j. (polynomial_xy lw w q).0 j ⊕ T.0 j) e ∙ ap₂ ◌⊕◌ (u.free lw ht hb s (omega arith)) (of_T s ∙ mono_at (polynomials lw) c.factor s) ∙ zero_add (polynomials lw) _)
-          at k (inr ne) = c.others k ne ∙ sym (ap (λ x. (polynomial_xy lw w q).0 k ⊕ x) (beside k ne (cases_lt k s)) ∙ add-zero (polynomials lw) _)
+          at k (inr ne) = c.others k ne ∙ sym (ap (λ x. (polynomial_xy lw w q).0 k ⊕ x) (beside k ne (cases_lt k s)) ∙ add_zero (polynomials lw) _)
 
       of_multiple : (k : ℕ) → (T ⊠ polynomial_xy lw w b).0 k ≡ (series (polynomials lw)).mul (mono (polynomials lw) c.factor s) (polynomial_xy lw w b).0 k
       of_multiple k = ap (λ f. f k) (of_mul (polynomials lw) eqP T (polynomial_xy lw w b) ∙ ap (λ f. (series (polynomials lw)).mul f (polynomial_xy lw w b).0) (of_term (polynomials lw) eqP c.factor s))
@@ -170,7 +170,7 @@ module _ (K : Arithmetic) (w : ℕ) (t₀ b : List ℕ) (n : ℕ) (lt : length t
       rest_is = same (polynomials lw) eqP (fun_ext λ k. at k (cases_lt k s) ∙ sym (coef_add (polynomials lw) eqP (polynomial_xy lw w t) (⊟ (T ⊠ polynomial_xy lw w b)) k ∙ ap (λ x. (polynomial_xy lw w t).0 k ⊕ x) (coef_neg (polynomials lw) eqP (T ⊠ polynomial_xy lw w b) k)))
         where
           at : (k : ℕ) → (k < s) ⊎ (s ≤ k) → (polynomial_xy lw w t').0 k ≡ (polynomial_xy lw w t).0 k ⊕ ⊖ (T ⊠ polynomial_xy lw w b).0 k
-          at k (inl l) = c.less.under k l ∙ sym (ap (λ x. (polynomial_xy lw w t).0 k ⊕ ⊖ x) (of_multiple k ∙ mono_mul_under (polynomials lw) c.factor s (polynomial_xy lw w b).0 k l) ∙ ap (λ x. (polynomial_xy lw w t).0 k ⊕ x) (neg_zero (polynomials lw)) ∙ add-zero (polynomials lw) _)
+          at k (inl l) = c.less.under k l ∙ sym (ap (λ x. (polynomial_xy lw w t).0 k ⊕ ⊖ x) (of_multiple k ∙ mono_mul_under (polynomials lw) c.factor s (polynomial_xy lw w b).0 k l) ∙ ap (λ x. (polynomial_xy lw w t).0 k ⊕ x) (neg_zero (polynomials lw)) ∙ add_zero (polynomials lw) _)
           at k (inr l) =
               let j : ℕ = k - s in
               let e : s + j ≡ k = omega arith in
@@ -198,7 +198,7 @@ module _ (K : Arithmetic) (w : ℕ) (t₀ b : List ℕ) (n : ℕ) (lt : length t
               let i : ℕ = k - s in
               let e : s + i ≡ k = omega arith in
               let z : (polynomial_xy lw w b).0 i ≡ O = below_size (polynomials lw) eqP (polynomial_xy lw w b) n (let a = size_b lw hb in omega arith) i (omega arith) in
-              less i e ∙ ap₂ (λ x y. x ⊕ ⊖ y) (u.below lw ht hb k l) (ap (λ x. c.factor ⊙ x) z ∙ mul-zero (polynomials lw) _) ∙ zero_add (polynomials lw) _ ∙ neg_zero (polynomials lw)
+              less i e ∙ ap₂ (λ x y. x ⊕ ⊖ y) (u.below lw ht hb k l) (ap (λ x. c.factor ⊙ x) z ∙ mul_zero (polynomials lw) _) ∙ zero_add (polynomials lw) _ ∙ neg_zero (polynomials lw)
 
     pub division_more : (t' q' : List ℕ) → CutTop K w t b s n q t' q' (Ok tt) → LongDivision K w t₀ b t' q' n (top - 1)
     division_more t' q' c = record {
@@ -241,7 +241,7 @@ module _ (K : Arithmetic) (w : ℕ) (t₀ b : List ℕ) (n : ℕ) (lt : length t
     pub division_even : m ≡ 0 → DividedTable K w t₀ b t q (Ok tt)
     division_even e ht hb =
         let h = u.inside ht hb in
-        (h.0, h.1, subst (λ (k : ℕ). SizedX K w t k) e s, λ lw. record { nonzero = nonzero_b lw hb; is = u.is lw ht hb ∙ ap ((poly₂ (elements lw) (element_discrete K)).add _) (size_zero (polynomials lw) (poly_discrete (elements lw) (element_discrete K)) _ (size_x_is lw w t m lt' s h.0 ∙ e)) ∙ add-zero (poly₂ (elements lw) (element_discrete K)) _ })
+        (h.0, h.1, subst (λ (k : ℕ). SizedX K w t k) e s, λ lw. record { nonzero = nonzero_b lw hb; is = u.is lw ht hb ∙ ap ((poly₂ (elements lw) (element_discrete K)).add _) (size_zero (polynomials lw) (poly_discrete (elements lw) (element_discrete K)) _ (size_x_is lw w t m lt' s h.0 ∙ e)) ∙ add_zero (poly₂ (elements lw) (element_discrete K)) _ })
 
     left_over : (lw : Laws K) → Inside K t₀ → Inside K b → (m ≡ 0 → ⊥) → IsField K → Divides (poly₂ (elements lw) (element_discrete K)) (polynomial_xy lw w b) (polynomial_xy lw w t₀) → ⊥
     unfolding field

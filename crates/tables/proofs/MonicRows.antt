@@ -3,7 +3,7 @@ use Rattle.std.proofs.Common.{◌≡◌, ℕ, suc, ◌+◌, ◌-◌, ◌*◌, �
 use mathlib.Core.Path.{fun_ext}
 use Rattle.std.proofs.lemmas.Bool.{cases_lt}
 use Rattle.coefficients.specs.Arithmetic.{Arithmetic, Laws}
-use Rattle.algebra.specs.Ring.{mul-zero, mul-one, one-mul}
+use Rattle.algebra.specs.Ring.{mul_zero, mul_one, one_mul}
 use Rattle.algebra.specs.Lead.{LeadIs, Monic}
 use Rattle.algebra.specs.Polynomial.{Poly, poly_discrete, size, same}
 use Rattle.algebra.specs.Change.{poly₂, number, number_one}
@@ -28,7 +28,7 @@ scaled_row {K} laws c f f' hf hf' len L = same (elements laws) (element_discrete
 
     at : (k : ℕ) → (k < length f) ⊎ (length f ≤ k) → coefficients laws f' k ≡ (elements laws).mul c ((polynomial laws f).0 k)
     at k (inl lt) = element_same K (code_at laws f' k hf' (omega arith) ∙ L k lt ∙ ap (K.product c.0) (sym (code_at laws f k hf lt)) ∙ sym (code_mul laws c (coefficients laws f k))) ∙ ap ((elements laws).mul c) (of k)
-    at k (inr le) = past_end laws f' k (omega arith) ∙ sym (ap ((elements laws).mul c) (sym (of k) ∙ past_end laws f k le) ∙ mul-zero (elements laws) c)
+    at k (inr le) = past_end laws f' k (omega arith) ∙ sym (ap ((elements laws).mul c) (sym (of k) ∙ past_end laws f k le) ∙ mul_zero (elements laws) c)
 
 module _ {K : Arithmetic} (laws : Laws K) (w : ℕ) (t t' : List ℕ) (n m c : ℕ) (long : length t ≡ 16 * w) (len : length t' ≡ length t) (pos : 0 < n) (s : SizedX K w t n) (lead : Sized K (cut_row w t (n - 1)) m) (iv : Inverts K (cut_row w t (n - 1)) m c) (L : (i : ℕ) → i < length t → get_or t' i 0 ≡ K.product c (get_or t i 0)) where
   rows_long : (k : ℕ) → length (cut_row w t' k) ≡ length (cut_row w t k)
@@ -83,8 +83,8 @@ module _ {K : Arithmetic} (laws : Laws K) (w : ℕ) (t t' : List ℕ) (n m c : �
 pub monic_zero : {K : Arithmetic} (laws : Laws K) (w : ℕ) (t : List ℕ) → length t ≡ 16 * w → SizedX K w t 0 → Inside K t → MonicOf laws w t t
 monic_zero {K} laws w t long s h = record {
   by = (elements laws).one;
-  unit = ((elements laws).one, sym (mul-one (elements laws) _));
-  is = sym (ap (λ x. (poly₂ (elements laws) (element_discrete K)).mul x (polynomial_xy laws w t)) one ∙ one-mul (poly₂ (elements laws) (element_discrete K)) _);
+  unit = ((elements laws).one, sym (mul_one (elements laws) _));
+  is = sym (ap (λ x. (poly₂ (elements laws) (element_discrete K)).mul x (polynomial_xy laws w t)) one ∙ one_mul (poly₂ (elements laws) (element_discrete K)) _);
   monic = λ some. absurd (some (size_x_is laws w t 0 long s h));
 }
   where

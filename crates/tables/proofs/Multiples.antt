@@ -5,7 +5,7 @@ use native.Mathlib.Decide.{ℕ_discrete}
 use borrow.Rule.Slice.PartMut.{put_mid}
 use Rattle.std.proofs.lemmas.Bool.{cases_lt}
 use Rattle.coefficients.specs.Arithmetic.{Arithmetic, Laws, IsField}
-use Rattle.algebra.specs.Ring.{mul-zero}
+use Rattle.algebra.specs.Ring.{mul_zero}
 use Rattle.algebra.specs.Field.{field_domain}
 use Rattle.algebra.specs.Polynomial.{Poly, poly_discrete, size, same}
 use Rattle.algebra.specs.Change.{poly₂}
@@ -93,4 +93,4 @@ scaled_all K w t g p i long along e u ht hg = (u.inside ht hg, λ lw. same (poly
   where
     row : (lw : Laws K) (j : ℕ) → (j < 16) ⊎ (16 ≤ j) → (polynomial_xy lw w p).0 j ≡ (polynomials lw).mul (polynomial lw g) ((polynomial_xy lw w t).0 j)
     row lw j (inl lt) = of_rows lw w p j ∙ u.is lw ht hg j (omega arith) ∙ ap ((polynomials lw).mul (polynomial lw g)) (sym (of_rows lw w t j))
-    row lw j (inr far) = of_past lw w p j (along ∙ long) far ∙ sym (ap ((polynomials lw).mul (polynomial lw g)) (of_past lw w t j long far) ∙ mul-zero (polynomials lw) _)
+    row lw j (inr far) = of_past lw w p j (along ∙ long) far ∙ sym (ap ((polynomials lw).mul (polynomial lw g)) (of_past lw w t j long far) ∙ mul_zero (polynomials lw) _)

@@ -3,7 +3,7 @@ use Rattle.std.proofs.Common.{◌≡◌, ℕ, suc, ◌+◌, ◌*◌, ◌<◌, �
 use Rattle.std.proofs.lemmas.Bool.{cases_eq}
 use Rattle.coefficients.specs.Arithmetic.{Arithmetic, Laws, IsField}
 use Rattle.coefficients.specs.declared.kind.ReciprocalFault.{ReciprocalFault}
-use Rattle.algebra.specs.Ring.{add-zero, zero_add, mul-zero}
+use Rattle.algebra.specs.Ring.{add_zero, zero_add, mul_zero}
 use Rattle.algebra.specs.Bounded.{Below, zero_below, below_more}
 use Rattle.algebra.specs.Polynomial.{Poly, size, size_least, of_zero, at}
 use Rattle.algebra.specs.Change.{number, number_one, linear}
@@ -55,7 +55,7 @@ module _ {K : Arithmetic} (laws : Laws K) (ps vs : List ℕ) where
 
         kept : value (polynomial laws g) ≡ value (polynomial laws f)
         kept =
-            sym (ap ((elements laws).add (value (polynomial laws g))) (ap ((elements laws).mul step.by) (product_root laws ps k j (omega arith)) ∙ mul-zero (elements laws) _) ∙ add-zero (elements laws) _)
+            sym (ap ((elements laws).add (value (polynomial laws g))) (ap ((elements laws).mul step.by) (product_root laws ps k j (omega arith)) ∙ mul_zero (elements laws) _) ∙ add_zero (elements laws) _)
             ∙ value_less laws step.by (point laws ps j) (polynomial laws f) (polynomial laws g) (product laws ps k) less
 
     pub meets_more : Meets laws ps vs (k + 1) i g

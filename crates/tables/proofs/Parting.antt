@@ -2,7 +2,7 @@
 use Rattle.std.proofs.Common.{◌≡◌, ℕ, zero, suc, List, get_or, Ok, Err, sym, ap, ◌∙◌, inr, arith}
 use mathlib.Core.Path.{fun_ext}
 use Rattle.coefficients.specs.Arithmetic.{Arithmetic, Laws, IsField}
-use Rattle.algebra.specs.Ring.{zero-mul, mul-one, mul_assoc}
+use Rattle.algebra.specs.Ring.{zero_mul, mul_one, mul_assoc}
 use Rattle.algebra.specs.Divisors.{Divides, Invertible}
 use Rattle.algebra.specs.Field.{field_domain}
 use Rattle.algebra.specs.Lead.{lead, Monic}
@@ -29,12 +29,12 @@ module _ {K : Arithmetic} (laws : Laws K) (w : ℕ) (t d : List ℕ) (c : RowsGc
   infixl 70 ◌⊠◌
   -- the content is zero only of zero
   pub zero_content : polynomial laws d ≡ O → polynomial_xy laws w t ≡ 𝟎
-  zero_content z = same (polynomials laws) (poly_discrete (elements laws) (element_discrete K)) (fun_ext λ k. let (x, e) = c.divides k in e ∙ ap (λ y. y ⋆ x) z ∙ zero-mul (polynomials laws) x ∙ sym (coef_zero (polynomials laws) (poly_discrete (elements laws) (element_discrete K)) k))
+  zero_content z = same (polynomials laws) (poly_discrete (elements laws) (element_discrete K)) (fun_ext λ k. let (x, e) = c.divides k in e ∙ ap (λ y. y ⋆ x) z ∙ zero_mul (polynomials laws) x ∙ sym (coef_zero (polynomials laws) (poly_discrete (elements laws) (element_discrete K)) k))
 
   pub content_zero : polynomial_xy laws w t ≡ 𝟎 → polynomial laws d ≡ O
   content_zero z =
       let (x, e) = c.greatest O (λ k. divides_eq (polynomials laws) (sym (ap (λ (p : Poly (polynomials laws)). p.0 k) z ∙ coef_zero (polynomials laws) (poly_discrete (elements laws) (element_discrete K)) k)) (divides_zero (polynomials laws) O)) in
-      e ∙ zero-mul (polynomials laws) x
+      e ∙ zero_mul (polynomials laws) x
 
   pub content_monic : (polynomial laws d ≡ O → ⊥) → Monic (elements laws) (polynomial laws d)
   content_monic n = c.normal (λ e. n (size_zero (elements laws) (element_discrete K) (polynomial laws d) e))
@@ -46,7 +46,7 @@ module _ {K : Arithmetic} (laws : Laws K) (w : ℕ) (t d : List ℕ) (c : RowsGc
     unfolding field
     unit x h =
         let (y, e) = c.greatest (polynomial laws d ⋆ x) (λ k. let (z, f) = h k in (z, at k ∙ ap (λ v. polynomial laws d ⋆ v) f ∙ sym (mul_assoc (polynomials laws) _ _ _))) in
-        (y, cancel (polynomials laws) (poly_domain (elements laws) (element_discrete K) (field_domain (field laws only))) m.nonzero (mul-one (polynomials laws) _ ∙ e ∙ mul_assoc (polynomials laws) _ _ _))
+        (y, cancel (polynomials laws) (poly_domain (elements laws) (element_discrete K) (field_domain (field laws only))) m.nonzero (mul_one (polynomials laws) _ ∙ e ∙ mul_assoc (polynomials laws) _ _ _))
       where
         at : (k : ℕ) → (polynomial_xy laws w t).0 k ≡ polynomial laws d ⋆ (polynomial_xy laws w p).0 k
         at k = ap (λ (A : Poly (polynomials laws)). A.0 k) m.is ∙ coef_scale (polynomials laws) (poly_discrete (elements laws) (element_discrete K)) (polynomial laws d) (polynomial_xy laws w p) k
@@ -90,5 +90,5 @@ module _ {K : Arithmetic} (laws : Laws K) (w : ℕ) (t held d p : List ℕ) (n :
       let a = u h in
       let b = (v h a.0).1 laws in
       let (m, s, one) = content_monic laws w t d (a.2 laws) b.nonzero in
-      let (i, no_way) = b.uneven (inr ((elements laws).one, sym (mul-one (elements laws) _ ∙ lead_at (elements laws) (element_discrete K) (polynomial laws d) m s ∙ one))) in
+      let (i, no_way) = b.uneven (inr ((elements laws).one, sym (mul_one (elements laws) _ ∙ lead_at (elements laws) (element_discrete K) (polynomial laws d) m s ∙ one))) in
       no_way ((a.2 laws).divides i)

@@ -2,7 +2,7 @@
 use Rattle.std.proofs.Common.{◌≡◌, ℕ, zero, suc, ◌+◌, ◌<◌, true, ◌≢◌, ◌⊎◌, List, [], ◌∷◌, length, get_or, sym, refl, ap, ◌∙◌, inl, inr, add-one, arith}
 use Rattle.std.proofs.lemmas.Bool.{cond-true, cases_eq}
 use Rattle.coefficients.specs.Arithmetic.{Arithmetic, Laws, IsField}
-use Rattle.algebra.specs.Ring.{add_neg, mul-zero, zero-mul, sub_zero→eq}
+use Rattle.algebra.specs.Ring.{add_neg, mul_zero, zero_mul, sub_zero→eq}
 use Rattle.algebra.specs.Bounded.{Below, one_below, below_cons}
 use Rattle.algebra.specs.Polynomial.{Poly, of_one, at, evaluate}
 use Rattle.algebra.specs.Change.{linear, of_linear, at_linear}
@@ -66,8 +66,8 @@ module _ {K : Arithmetic} (laws : Laws K) where
     product_root (suc k) j lt = value_more (point j) k ∙ go (product_root k j) (cases_eq j k)
       where
         go : (j < k → value (point j) (product k) ≡ 𝟘) → (j ≡ k) ⊎ (j ≢ k) → (point j ⊕ ⊖ point k) ⊙ value (point j) (product k) ≡ 𝟘
-        go ih (inl e) = ap (λ d. d ⊙ value (point j) (product k)) (ap (λ i. point i ⊕ ⊖ point k) e ∙ add_neg (elements laws) (point k)) ∙ zero-mul (elements laws) _
-        go ih (inr ne) = ap (λ v. (point j ⊕ ⊖ point k) ⊙ v) (ih (omega arith)) ∙ mul-zero (elements laws) _
+        go ih (inl e) = ap (λ d. d ⊙ value (point j) (product k)) (ap (λ i. point i ⊕ ⊖ point k) e ∙ add_neg (elements laws) (point k)) ∙ zero_mul (elements laws) _
+        go ih (inr ne) = ap (λ v. (point j ⊕ ⊖ point k) ⊙ v) (ih (omega arith)) ∙ mul_zero (elements laws) _
 
     -- over a field there is no other root
     pub product_nonzero : IsField K → (x : Element K) (k : ℕ) → ((j : ℕ) → j < k → ¬ (x ≡ point j)) → ¬ (value x (product k) ≡ 𝟘)

@@ -4,7 +4,7 @@ use mathlib.Core.Path.{fun_ext}
 use Rattle.std.proofs.lemmas.List.{get_or_past}
 use Rattle.std.proofs.lemmas.Bool.{cases_lt}
 use Rattle.coefficients.specs.Arithmetic.{Arithmetic, Laws}
-use Rattle.algebra.specs.Ring.{ring, one-mul, mul-zero, neg_zero, add-zero}
+use Rattle.algebra.specs.Ring.{ring, one_mul, mul_zero, neg_zero, add_zero}
 use Rattle.algebra.specs.Polynomial.{Poly, poly_discrete, same}
 use Rattle.algebra.specs.Change.{number, number_one}
 use Rattle.algebra.proofs.Degrees.{coef_scale}
@@ -44,7 +44,7 @@ kept_row {K} laws w t t' k len e = same (elements laws) (element_discrete K) (of
 less_row : {K : Arithmetic} (laws : Laws K) (w : ℕ) (f f' g : List ℕ) (c : ℕ) → c ≡ K.one → length f ≡ w → length f' ≡ w → length g ≡ w → Inside K f → Inside K g → ((j : ℕ) → j < w → get_or f' j 0 ≡ K.difference (get_or f j 0) (K.product c (get_or g j 0))) → polynomial laws f' ≡ (polynomials laws).add (polynomial laws f) ((polynomials laws).neg (polynomial laws g))
 less_row {K} laws w f f' g c one lf lf' lg hf hg e =
     lessened laws f f' g 0 c w inside hf hg (omega arith) (omega arith) (omega arith) (λ j le lt. absurd (omega arith)) step
-    ∙ ap (λ p. (polynomials laws).add (polynomial laws f) ((polynomials laws).neg p)) (ap (λ p. (polynomials laws).mul p (polynomial laws g)) unit ∙ one-mul (polynomials laws) _)
+    ∙ ap (λ p. (polynomials laws).add (polynomial laws f) ((polynomials laws).neg p)) (ap (λ p. (polynomials laws).mul p (polynomial laws g)) unit ∙ one_mul (polynomials laws) _)
   where
     inside : K.element c ≡ true
     inside = ap K.element one ∙ laws.one_in
@@ -91,7 +91,7 @@ module _ (K : Arithmetic) (w : ℕ) (t b : List ℕ) (s n : ℕ) (f p t' : List 
             omega arith
 
     nothing : (a g z : Poly (elements laws)) → z ≡ O → a ≡ a ⊕ ⊖ (g ⊙ z)
-    nothing a g z e = sym (ap (λ x. a ⊕ ⊖ x) (ap (λ x. g ⊙ x) e ∙ mul-zero (polynomials laws) g) ∙ ap (λ x. a ⊕ x) (neg_zero (polynomials laws)) ∙ add-zero (polynomials laws) a)
+    nothing a g z e = sym (ap (λ x. a ⊕ ⊖ x) (ap (λ x. g ⊙ x) e ∙ mul_zero (polynomials laws) g) ∙ ap (λ x. a ⊕ x) (neg_zero (polynomials laws)) ∙ add_zero (polynomials laws) a)
 
     over : (k : ℕ) → (polynomial_xy laws w t').0 (s + k) ≡ (polynomial_xy laws w t).0 (s + k) ⊕ ⊖ (polynomial laws f ⊙ (polynomial_xy laws w b).0 k)
     over k = go (cases_lt k n) (cases_lt k 16)

@@ -1,7 +1,7 @@
 -- Content and primitive part of rows over a field, and the gcd of the leading coefficients of two primitive parts.
 use Rattle.std.proofs.Common.{◌≡◌, ℕ, zero, suc, List, [], ◌∷◌, sym, refl, ap, ◌∙◌, ap₂}
 use Rattle.coefficients.specs.Arithmetic.{Arithmetic, Laws, IsField}
-use Rattle.algebra.specs.Ring.{Ring, mul-one, mul_assoc}
+use Rattle.algebra.specs.Ring.{Ring, mul_one, mul_assoc}
 use Rattle.algebra.specs.Divisors.{Divides, Invertible, Greatest}
 use Rattle.algebra.specs.Lead.{Monic}
 use Rattle.algebra.specs.Lists.{All}
@@ -127,7 +127,7 @@ module _ {K : Arithmetic} (laws : Laws K) (only : IsField K) where
 
     -- a common divisor of the primitive part, times the content, divides the content
     unit : (d : Poly R) → Divides (polynomials laws) (c ⊙ d) c → Invertible (polynomials laws) d
-    unit d (q, e) = (q, cancel_y F (content_nonzero r rows h) (mul-one (polynomials laws) c ∙ e ∙ mul_assoc (polynomials laws) c d q))
+    unit d (q, e) = (q, cancel_y F (content_nonzero r rows h) (mul_one (polynomials laws) c ∙ e ∙ mul_assoc (polynomials laws) c d q))
 
     part_primitive : Primitive (polynomials laws) (m₂ (primitive K (r ∷ rows)))
     part_primitive =

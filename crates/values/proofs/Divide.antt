@@ -2,7 +2,7 @@
 use Rattle.std.proofs.Common.{◌≡◌, ℕ, suc, ◌<◌, ◌≤◌, Bool, true, false, ltb, List, [], ◌∷◌, length, sym, refl, ap, ◌∙◌, ap₂, arith}
 use mathlib.Core.HLevel.{Discrete}
 use Rattle.std.proofs.lemmas.Bool.{ltb-true, ltb-false}
-use Rattle.algebra.specs.Ring.{Ring, ring, combine, mul-zero, zero-mul, mul_comm, add-zero, zero_add}
+use Rattle.algebra.specs.Ring.{Ring, ring, combine, mul_zero, zero_mul, mul_comm, add_zero, zero_add}
 use Rattle.algebra.specs.Bounded.{Below, Domain, Any}
 use Rattle.algebra.specs.Polynomial.{Poly, poly, size, size_least, zero?}
 use Rattle.algebra.specs.Change.{number}
@@ -89,7 +89,7 @@ module _ {A E : Type 0} {O : Ops A} {R : Ring E} {eq : Discrete E} {In : A → T
 
       u_below : Below R (suc n) u.0
       unfolding u
-      u_below k le = coef_add R eq (number R eq c ⊠ b) t k ∙ ap₂ ◌⊕◌ (coef_scale R eq c b k ∙ ap (λ z. c ⊙ z) (below_size R eq b (suc n) (omega (arith, b_size)) k le) ∙ mul-zero R _) (below_size R eq t (suc n) (omega arith) k le) ∙ add-zero R _
+      u_below k le = coef_add R eq (number R eq c ⊠ b) t k ∙ ap₂ ◌⊕◌ (coef_scale R eq c b k ∙ ap (λ z. c ⊙ z) (below_size R eq b (suc n) (omega (arith, b_size)) k le) ∙ mul_zero R _) (below_size R eq t (suc n) (omega arith) k le) ∙ add_zero R _
 
       later_size : size R (rest R eq u) ≤ n
       later_size = rest_size R eq u n (size_least R u (suc n) u_below)
@@ -132,7 +132,7 @@ module _ {A E : Type 0} {O : Ops A} {R : Ring E} {eq : Discrete E} {In : A → T
                 let z = r_size in
                 let f = size_least R u (suc n) u_below in
                 let len : length r ≡ suc n = omega arith in
-                lead_coef L r n len ∙ ap (λ (q : Poly R). q.0 n) r_is ∙ coef_add R eq (number R eq c ⊠ b) t n ∙ ap₂ ◌⊕◌ (coef_scale R eq c b n ∙ ap (λ z. c ⊙ z) (sym (lead_coef L ys n refl))) (below_size R eq t n l n (omega arith)) ∙ add-zero R _ ∙ mul_comm R _ _
+                lead_coef L r n len ∙ ap (λ (q : Poly R). q.0 n) r_is ∙ coef_add R eq (number R eq c ⊠ b) t n ∙ ap₂ ◌⊕◌ (coef_scale R eq c b n ∙ ap (λ z. c ⊙ z) (sym (lead_coef L ys n refl))) (below_size R eq t n l n (omega arith)) ∙ add_zero R _ ∙ mul_comm R _ _
 
             go : (v : Bool) → ltb (length r) (suc n) ≡ v → Divided Q t (elim v as (λ z. List A × List A) [ true ↦ (put O O.zero d.0, r) | false ↦ (put O p d.0, sub O r (scale O p ys)) ])
             go true v =
@@ -142,7 +142,7 @@ module _ {A E : Type 0} {O : Ops A} {R : Ring E} {eq : Discrete E} {In : A → T
                   quotient_in = put_in L _ d.0 C.zero_in X.quotient_in;
                   remainder_in = r_in;
                   quotient_is = put_is L _ d.0 C.zero_in ∙ ap₂ (grow R eq) (C.zero_is ∙ sym c_zero) X.quotient_is ∙ sym (grow_parts R eq Q);
-                  remainder_is = r_is ∙ ap (λ q. q ⊠ b ⊞ t) z ∙ ap (λ q. q ⊞ t) (zero-mul (poly R eq) b) ∙ zero_add (poly R eq) t;
+                  remainder_is = r_is ∙ ap (λ q. q ⊠ b ⊞ t) z ∙ ap (λ q. q ⊞ t) (zero_mul (poly R eq) b) ∙ zero_add (poly R eq) t;
                 }
             go false v =
                 let li = lead_in L r r_in in
@@ -159,7 +159,7 @@ module _ {A E : Type 0} {O : Ops A} {R : Ring E} {eq : Discrete E} {In : A → T
     divide_by_is [] h Q t e l =
         let z = small_multiple b t b_nonzero (omega (arith, b_size)) (⊟ Q) (law Q b t (sym L.none ∙ e)) in
         let q : Q ≡ 𝟎 = law₂ Q z in
-        record { quotient_in = tt; remainder_in = tt; quotient_is = L.none ∙ sym q; remainder_is = e ∙ ap (λ p. p ⊠ b ⊞ t) q ∙ ap (λ p. p ⊞ t) (zero-mul (poly R eq) b) ∙ zero_add (poly R eq) t }
+        record { quotient_in = tt; remainder_in = tt; quotient_is = L.none ∙ sym q; remainder_is = e ∙ ap (λ p. p ⊠ b ⊞ t) q ∙ ap (λ p. p ⊞ t) (zero_mul (poly R eq) b) ∙ zero_add (poly R eq) t }
       where
         law : (q b t : Poly R) → 𝟎 ≡ q ⊠ b ⊞ t → t ≡ b ⊠ ⊟ q
         law q b t e = combine (poly R eq) (⊟ 𝟏) e (by_ring (poly R eq) (q ∷ b ∷ t ∷ []) (search quoting depth 30) tt)

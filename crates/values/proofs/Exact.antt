@@ -1,7 +1,7 @@
 -- Exact quotients of rows over a field: by a polynomial in y, and by rows.
 use Rattle.std.proofs.Common.{◌≡◌, ℕ, List, [], ◌∷◌, sym, refl, ap, ◌∙◌, ap₂, arith}
 use Rattle.coefficients.specs.Arithmetic.{Arithmetic, Laws, IsField}
-use Rattle.algebra.specs.Ring.{Ring, mul-zero, mul_comm, add-zero}
+use Rattle.algebra.specs.Ring.{Ring, mul_zero, mul_comm, add_zero}
 use Rattle.algebra.specs.Divisors.{Divides}
 use Rattle.algebra.specs.Lists.{All}
 use Rattle.algebra.specs.Field.{Field}
@@ -60,7 +60,7 @@ module _ {K : Arithmetic} (laws : Laws K) (only : IsField K) where
   -- every row divided by c
   module _ (c : List ℕ) (c_in : Ok c) (nonzero : ¬ (m c ≡ 𝟎)) where
     pub divided_rows : (rows : List (List ℕ)) → All Ok rows → All (λ r. Divides (polynomials laws) (m c) (m r)) rows → Ok₂ (over K c rows) × Multiple laws rows c (over K c rows)
-    divided_rows [] h d = (tt, L₂.none ∙ sym (ap (λ p. number (polynomials laws) eq₂ (m c) ⊠ p) L₂.none ∙ mul-zero (poly₂ R eq) _))
+    divided_rows [] h d = (tt, L₂.none ∙ sym (ap (λ p. number (polynomials laws) eq₂ (m c) ⊠ p) L₂.none ∙ mul_zero (poly₂ R eq) _))
     divided_rows (r ∷ rows) h d =
         let (Q, e) = d.0 in
         let q = exact laws only r c h.0 c_in nonzero Q e in
@@ -84,7 +84,7 @@ module _ {K : Arithmetic} (laws : Laws K) (only : IsField K) where
       let l_in = lead_in L₂ (s ∷ b) k in
       let nonzero = lead_nonzero L₂ s b k in
       let z = size_of_zero (polynomials laws) eq₂ in
-      let D = divide_by_is L₂ (domain_y F) s b k (λ c. quotient K c l) (λ c i. quotient_in laws only c l i l_in nonzero) (λ c i q f. (exact laws only c l i l_in nonzero q f).1) a h Q 𝟎₂ (e ∙ mul_comm (poly₂ R eq) _ _ ∙ sym (add-zero (poly₂ R eq) _)) (omega arith) in
+      let D = divide_by_is L₂ (domain_y F) s b k (λ c. quotient K c l) (λ c i. quotient_in laws only c l i l_in nonzero) (λ c i q f. (exact laws only c l i l_in nonzero q f).1) a h Q 𝟎₂ (e ∙ mul_comm (poly₂ R eq) _ _ ∙ sym (add_zero (poly₂ R eq) _)) (omega arith) in
       (D.quotient_in, D.quotient_is)
 
   pub quotient_x_is : (a b : List (List ℕ)) → Ok₂ a → Ok₂ b → ¬ (b ≡ []) → Divides (poly₂ R eq) (m₂ b) (m₂ a) → Unique (TrimmedYx K) (Factors laws a b) (quotient_x K a b)

@@ -1,7 +1,7 @@
 -- Monic multiples, division with remainder, exact quotients and greatest common divisors of lists of codes over a field.
 use Rattle.std.proofs.Common.{◌≡◌, ℕ, zero, suc, ◌<◌, List, [], ◌∷◌, length, sym, refl, ap, ◌∙◌, ap₂, arith}
 use Rattle.coefficients.specs.Arithmetic.{Arithmetic, Laws, IsField}
-use Rattle.algebra.specs.Ring.{Ring, combine, mul-zero, mul_comm, add-zero}
+use Rattle.algebra.specs.Ring.{Ring, combine, mul_zero, mul_comm, add_zero}
 use Rattle.algebra.specs.Divisors.{Divides, Greatest}
 use Rattle.algebra.specs.Lead.{Monic}
 use Rattle.algebra.specs.Field.{Field, field_domain}
@@ -78,7 +78,7 @@ module _ {K : Arithmetic} (laws : Laws K) (only : IsField K) where
     inverts = inverse_is laws only l l_in l_nonzero
 
     i_nonzero : ¬ (read laws i ≡ 𝟘)
-    i_nonzero z = F.zero≢one (sym (mul-zero R _) ∙ ap (λ a. read laws l ⊙ a) (sym z) ∙ inverts)
+    i_nonzero z = F.zero≢one (sym (mul_zero R _) ∙ ap (λ a. read laws l ⊙ a) (sym z) ∙ inverts)
 
     scaled : m (monic K (x ∷ xs)) ≡ number R eq (read laws i) ⊠ m (x ∷ xs)
     unfolding i
@@ -152,7 +152,7 @@ module _ {K : Arithmetic} (laws : Laws K) (only : IsField K) where
   exact xs (y ∷ ys) h k n Q e =
       let s = size_is L (y ∷ ys) k in
       let z = size_of_zero R eq in
-      let D = divided xs y ys h k Q 𝟎 (e ∙ mul_comm (polynomials laws) _ _ ∙ sym (add-zero (polynomials laws) _)) (omega arith) in
+      let D = divided xs y ys h k Q 𝟎 (e ∙ mul_comm (polynomials laws) _ _ ∙ sym (add_zero (polynomials laws) _)) (omega arith) in
       (D.quotient_in, D.quotient_is)
 
   pub quotient_is : (xs ys : List ℕ) → Ok xs → Ok ys → ¬ (ys ≡ []) → Divides (polynomials laws) (m ys) (m xs) → Unique (TrimmedY K) (Exact laws xs ys) (quotient K xs ys)

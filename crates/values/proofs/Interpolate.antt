@@ -1,7 +1,7 @@
 -- Interpolation over a field: Newton's polynomial has the values, and is the only one of its degree that does.
 use Rattle.std.proofs.Common.{◌≡◌, ℕ, suc, ◌≤◌, ◌⊎◌, List, [], ◌∷◌, length, sym, refl, ap, ◌∙◌, subst, ap₂, inl, inr, arith}
 use Rattle.coefficients.specs.Arithmetic.{Arithmetic, Laws, IsField}
-use Rattle.algebra.specs.Ring.{Ring, ring, mul-zero, zero-mul, add-zero, add_neg, sub_zero→eq, combine}
+use Rattle.algebra.specs.Ring.{Ring, ring, mul_zero, zero_mul, add_zero, add_neg, sub_zero→eq, combine}
 use Rattle.algebra.specs.Lists.{All, Distinct, Pairwise}
 use Rattle.algebra.specs.Field.{Field, field_domain}
 use Rattle.algebra.specs.Polynomial.{Poly, size, at}
@@ -83,13 +83,13 @@ module _ {K : Arithmetic} (laws : Laws K) where
   meets_more [] (v ∷ vs) p w c z h = h
   meets_more (a ∷ ps) [] p w c z h = h
   meets_more (a ∷ ps) (v ∷ vs) p w c z h = (
-    at_add_is R eq (read laws a) _ _ ∙ ap₂ ◌⊕◌ h.0 (at_mul_is R eq (read laws a) _ _ ∙ ap (λ t. eval a (number R eq c) ⊙ t) z.0 ∙ mul-zero R _) ∙ add-zero R _,
+    at_add_is R eq (read laws a) _ _ ∙ ap₂ ◌⊕◌ h.0 (at_mul_is R eq (read laws a) _ _ ∙ ap (λ t. eval a (number R eq c) ⊙ t) z.0 ∙ mul_zero R _) ∙ add_zero R _,
     meets_more ps vs p w c z.1 h.1,
   )
 
   zeros_more : (ps : List ℕ) (l w : Poly R) → All (λ a. eval a w ≡ 𝟘) ps → All (λ a. eval a (l ⊠ w) ≡ 𝟘) ps
   zeros_more [] l w z = tt
-  zeros_more (a ∷ ps) l w z = (at_mul_is R eq (read laws a) l w ∙ ap (λ t. eval a l ⊙ t) z.0 ∙ mul-zero R _, zeros_more ps l w z.1)
+  zeros_more (a ∷ ps) l w z = (at_mul_is R eq (read laws a) l w ∙ ap (λ t. eval a l ⊙ t) z.0 ∙ mul_zero R _, zeros_more ps l w z.1)
 
   module _ (only : IsField K) where
     abbrev F : Field (Element K)
@@ -149,7 +149,7 @@ module _ {K : Arithmetic} (laws : Laws K) where
       node_is = mul_is L (root K a) w (root_in a a_in) N.node_in
 
       gone : eval a (m (root K a) ⊠ m w) ≡ 𝟘
-      gone = at_mul_is R eq (read laws a) _ _ ∙ ap (λ t. t ⊙ eval a (m w)) (root_at a (read laws a) a_in ∙ add_neg R _) ∙ zero-mul R _
+      gone = at_mul_is R eq (read laws a) _ _ ∙ ap (λ t. t ⊙ eval a (m w)) (root_at a (read laws a) a_in ∙ add_neg R _) ∙ zero_mul R _
 
       here : eval a (m p ⊞ number R eq (read laws c) ⊠ m w) ≡ read laws v
       here =

@@ -1,7 +1,7 @@
 -- Lists of codes that stand for polynomials: sums, differences, products, multiples, leads and values are those of the polynomials.
 use Rattle.std.proofs.Common.{◌≡◌, ℕ, zero, suc, pred, ◌≤◌, Bool, true, false, List, [], ◌∷◌, length, sym, refl, ap, ◌∙◌, ap₂, arith}
 use mathlib.Core.HLevel.{Discrete}
-use Rattle.algebra.specs.Ring.{Ring, mul-zero, zero-mul, add-zero, zero_add, neg_zero}
+use Rattle.algebra.specs.Ring.{Ring, mul_zero, zero_mul, add_zero, zero_add, neg_zero}
 use Rattle.algebra.specs.Lead as Algebra
 use Rattle.algebra.specs.Lists.{All}
 use Rattle.algebra.specs.Polynomial.{Poly, poly, size, at}
@@ -89,7 +89,7 @@ module _ {A E : Type 0} {O : Ops A} {R : Ring E} {eq : Discrete E} {In : A → T
 
   pub add_is : (xs ys : List A) → Ok xs → Ok ys → m (add O xs ys) ≡ m xs ⊞ m ys
   add_is [] ys h k = sym (ap (λ p. p ⊞ m ys) L.none ∙ zero_add (poly R eq) _)
-  add_is (x ∷ xs) [] h k = sym (ap (λ p. m (x ∷ xs) ⊞ p) L.none ∙ add-zero (poly R eq) _)
+  add_is (x ∷ xs) [] h k = sym (ap (λ p. m (x ∷ xs) ⊞ p) L.none ∙ add_zero (poly R eq) _)
   add_is (x ∷ xs) (y ∷ ys) h k =
       put_is _ (add O xs ys) (C.sum_in x y h.0 k.0)
       ∙ ap₂ (grow R eq) (C.sum_is x y h.0 k.0) (add_is xs ys h.1 k.1)
@@ -118,7 +118,7 @@ module _ {A E : Type 0} {O : Ops A} {R : Ring E} {eq : Discrete E} {In : A → T
   scale_in c (x ∷ xs) i h = put_in _ (scale O c xs) (C.product_in _ _ i h.0) (scale_in c xs i h.1)
 
   pub scale_is : (c : A) (xs : List A) → In c → Ok xs → m (scale O c xs) ≡ number R eq (mean c) ⊠ m xs
-  scale_is c [] i h = L.none ∙ sym (ap (λ p. number R eq (mean c) ⊠ p) L.none ∙ mul-zero (poly R eq) _)
+  scale_is c [] i h = L.none ∙ sym (ap (λ p. number R eq (mean c) ⊠ p) L.none ∙ mul_zero (poly R eq) _)
   scale_is c (x ∷ xs) i h =
       put_is _ (scale O c xs) (C.product_in _ _ i h.0)
       ∙ ap₂ (grow R eq) (C.product_is _ _ i h.0) (scale_is c xs i h.1)
@@ -129,7 +129,7 @@ module _ {A E : Type 0} {O : Ops A} {R : Ring E} {eq : Discrete E} {In : A → T
   mul_in (x ∷ xs) ys h k = add_in _ _ (scale_in x ys h.0 k) (put_in _ _ C.zero_in (mul_in xs ys h.1 k))
 
   pub mul_is : (xs ys : List A) → Ok xs → Ok ys → m (mul O xs ys) ≡ m xs ⊠ m ys
-  mul_is [] ys h k = L.none ∙ sym (ap (λ p. p ⊠ m ys) L.none ∙ zero-mul (poly R eq) _)
+  mul_is [] ys h k = L.none ∙ sym (ap (λ p. p ⊠ m ys) L.none ∙ zero_mul (poly R eq) _)
   mul_is (x ∷ xs) ys h k =
       add_is (scale O x ys) (put O O.zero (mul O xs ys)) (scale_in x ys h.0 k) (put_in _ _ C.zero_in (mul_in xs ys h.1 k))
       ∙ ap₂ ◌⊞◌ (scale_is x ys h.0 k) (put_is _ (mul O xs ys) C.zero_in ∙ ap₂ (grow R eq) C.zero_is (mul_is xs ys h.1 k))
