@@ -1,5 +1,5 @@
 -- Polynomials in x and y over a field have no zero divisors: cancelling, factors and sizes.
-use Rattle.std.proofs.Common.{◌≡◌, ℕ, zero, suc, pred, ◌+◌, ◌≤◌, ap, ◌∙◌, arith}
+use Rattle.std.proofs.Common.{◌≡◌, ℕ, suc, pred, ◌+◌, ◌≤◌, ap, ◌∙◌, arith}
 use mathlib.Core.HLevel.{Discrete}
 use Rattle.algebra.specs.Ring.{Ring, mul_zero, zero_mul}
 use Rattle.algebra.specs.Divisors.{Divides}

@@ -1,5 +1,5 @@
 -- The theorem on images: the greatest common divisor of the images at a point is the image of G' times what the images of the cofactors share.
-use Rattle.std.proofs.Common.{◌≡◌, ℕ, zero, pred, ◌+◌, ◌<◌, ◌≤◌, min, [], ◌∷◌, sym, ap, ◌∙◌, arith}
+use Rattle.std.proofs.Common.{◌≡◌, ℕ, pred, ◌+◌, ◌<◌, ◌≤◌, min, [], ◌∷◌, sym, ap, ◌∙◌, arith}
 use Rattle.algebra.specs.Ring.{combine, mul_zero}
 use Rattle.algebra.specs.Solver.{by_ring, quoting}
 use Rattle.algebra.specs.Divisors.{Divides, Greatest, Combined}

@@ -1,5 +1,5 @@
 -- The theorem on interpolation: by Newton's form for one unknown, and so for each coefficient in two.
-use Rattle.std.proofs.Common.{◌≡◌, ℕ, zero, suc, ◌≤◌, max, List, [], ◌∷◌, length, sym, refl, ap, ◌∙◌, ap₂, ⊎_elim, arith}
+use Rattle.std.proofs.Common.{◌≡◌, ℕ, suc, ◌≤◌, max, List, [], ◌∷◌, length, sym, refl, ap, ◌∙◌, ap₂, ⊎_elim, arith}
 use mathlib.Core.Path.{fun_ext}
 use Rattle.algebra.specs.Ring.{ring_eq, sub_zero→eq, neg_unique, mul_zero, zero_mul, add_zero, add_neg, mul_assoc}
 use Rattle.algebra.specs.Series.{Series}

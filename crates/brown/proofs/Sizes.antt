@@ -1,5 +1,5 @@
 -- Sizes and leading coefficients of polynomials over a ring.
-use Rattle.std.proofs.Common.{◌≡◌, ℕ, zero, suc, ◌+◌, ◌<◌, ◌≤◌, sym, ap, ◌∙◌, ap₂, arith}
+use Rattle.std.proofs.Common.{◌≡◌, ℕ, suc, ◌+◌, ◌<◌, ◌≤◌, sym, ap, ◌∙◌, ap₂, arith}
 use mathlib.Core.HLevel.{Discrete}
 use Rattle.algebra.specs.Ring.{Ring, ring, add_zero, mul_one, one_mul}
 use Rattle.algebra.specs.Divisors.{Divides}

@@ -1,5 +1,5 @@
 -- Euclid's algorithm on p and a, with the factor of a kept beside each remainder.
-use Rattle.std.proofs.Common.{◌≡◌, ℕ, zero, suc, ◌+◌, ◌-◌, ◌*◌, ◌/◌, ◌%◌, ◌<◌, ◌≤◌, sym, refl, ap, ◌∙◌, subst, ⊎_elim, mod-lt, mod-eq_of_lt, mul_assoc, mul_comm, add-mul, mul-one, mul-add, arith}
+use Rattle.std.proofs.Common.{◌≡◌, ℕ, zero, suc, ◌+◌, ◌-◌, ◌*◌, ◌/◌, ◌%◌, ◌<◌, ◌≤◌, sym, ap, ◌∙◌, subst, ⊎_elim, mod-lt, mod-eq_of_lt, mul_assoc, mul_comm, add-mul, mul-one, mul-add, arith}
 use Prim.Native.Nat.{◌∣◌}
 use native.Mathlib.Nat.{mod-add-mod, add-mod-mod, add-mod_right, mod_self, mod-add-div', div-add-mod, add-mul-mod_self_left, dvd-mod_iff, dvd-zero, dvd_refl, dvd-mul_right_of_dvd, eq-one_of_dvd-one}
 use Rattle.std.proofs.lemmas.Bool.{cases_eq}

@@ -1,6 +1,6 @@
 -- The laws of a kind whose elements are the codes below some number, from what its operations owe at elements.
-use Rattle.std.specs.Prelude.{◌≡◌, ℕ, zero, suc, ◌<◌, ◌≤◌, Bool, true, false, cond, ◌&&◌, ltb, ◌⊎◌, nat_eq, nat_lt, refl}
-use Rattle.std.proofs.Common.{sym, ap, ap₂, ◌∙◌, inl, inr, ⊎_elim, arith}
+use Rattle.std.specs.Prelude.{◌≡◌, ℕ, zero, suc, ◌<◌, Bool, true, false, ◌&&◌, ltb, nat_eq, nat_lt}
+use Rattle.std.proofs.Common.{sym, ap, ap₂, ◌∙◌, ⊎_elim, arith}
 use Rattle.std.proofs.lemmas.Bool.{cond-true, cond-false, cond_both, both_ways, and_from, and_left, and_right, and_parts, and_cases, lt-ltb, ltb-true, eq-eqb, eqb-true}
 use Rattle.coefficients.specs.Arithmetic.{Arithmetic, Laws}
 use Rattle.coefficients.specs.Below.{guarded, last_below, inverse_below, below, BelowLaws}

@@ -1,5 +1,5 @@
 -- Powers of x + 1: products by sums of exponents, and reciprocals.
-use Rattle.std.specs.Prelude.{◌≡◌, ℕ, zero, suc, ◌+◌, ◌-◌, ◌<◌, ◌≤◌, refl}
+use Rattle.std.specs.Prelude.{◌≡◌, ℕ, zero, suc, ◌+◌, ◌-◌, ◌<◌, refl}
 use Rattle.std.proofs.Common.{sym, ap, ap₂, ◌∙◌, arith}
 use Rattle.coefficients.specs.Byte.{x_times, times, power_of}
 use Rattle.coefficients.specs.Products.{times_below, times_assoc, times_comm, times_one}

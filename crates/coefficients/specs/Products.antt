@@ -1,7 +1,6 @@
 -- The laws of `times 8` on bytes.
-use Rattle.std.specs.Prelude.{◌≡◌, ℕ, zero, suc, ◌*◌, ◌/◌, ◌%◌, ◌^◌, ◌<◌, Bool, true, ◌==◌, bit_xor, nat_eq, nat_lt, refl}
-use Rattle.std.proofs.Common.{sym, ap, ap₂, ◌∙◌, mod-lt, arith}
-use Rattle.std.specs.Int.Bits.{xor_zero_r}
+use Rattle.std.specs.Prelude.{◌≡◌, ℕ, zero, suc, ◌*◌, ◌/◌, ◌%◌, ◌^◌, ◌<◌, Bool, ◌==◌, bit_xor, nat_eq, nat_lt, refl}
+use Rattle.std.proofs.Common.{ap, ap₂, ◌∙◌, mod-lt, arith}
 use Rattle.std.proofs.lemmas.Nat.{div_below, pow_below, xor_lt, xor_shr, xor_mod}
 use Rattle.std.proofs.lemmas.Bool.{ltb-true, eqb-true}
 use Rattle.coefficients.specs.Byte.{x_times, times}

@@ -1,9 +1,8 @@
 -- Tables of powers and logarithms, each proved by one test that antt computes.
-use Rattle.std.specs.Prelude.{◌≡◌, ℕ, zero, suc, ◌+◌, ◌*◌, ◌<◌, ◌≤◌, Bool, true, false, ◌&&◌, ◌||◌, List, [], ◌∷◌, length, ◌==◌, nat_lt, slice_index, refl}
+use Rattle.std.specs.Prelude.{◌≡◌, ℕ, zero, suc, ◌+◌, ◌<◌, Bool, true, false, ◌&&◌, ◌||◌, List, [], ◌∷◌, length, ◌==◌, nat_lt, slice_index, refl}
 use Rattle.std.proofs.Common.{sym, ap, ◌∙◌, ⊎_elim, arith}
 use Rattle.std.proofs.lemmas.Bool.{and_parts, or_cases, eqb-true, ltb-true}
-use Rattle.coefficients.specs.Byte.{x_times, times, power_of}
-use Rattle.coefficients.specs.Every.{every, every_at}
+use Rattle.coefficients.specs.Byte.{times, power_of}
 
 -- each entry is three times the one before, and the first is x
 abbrev pub chained : ℕ → List ℕ → Bool

@@ -1,9 +1,9 @@
 -- Common divisors, and how the steps of Euclid's algorithm keep them.
-use mathlib.Core.Path.{◌≡◌, refl, sym, ap, ap₂, fun_ext, subst, ◌∙◌}
+use mathlib.Core.Path.{◌≡◌, sym, ap, ap₂, fun_ext, subst, ◌∙◌}
 use mathlib.Core.Bool.{true}
 use mathlib.Core.List.{List}
 use mathlib.Core.Logic.{◌⊎◌, inl, inr}
-use Prim.Native.Nat.{ℕ, zero, suc, ◌+◌, ◌-◌, ◌≤◌, ◌<◌}
+use Prim.Native.Nat.{ℕ, suc, ◌+◌, ◌-◌, ◌≤◌, ◌<◌}
 use native.Mathlib.Omega.{arith}
 use lib.ListN.{length, get_or}
 use Rattle.std.proofs.lemmas.Bool.{cases_lt}
@@ -15,11 +15,10 @@ use Rattle.algebra.specs.Ring.{Ring, mul_zero, mul_comm}
 use Rattle.algebra.specs.Divisors.{Divides, Greatest}
 use Rattle.algebra.specs.Series.{series}
 use Rattle.algebra.specs.Polynomial.{size, same, of_mul}
-use Rattle.algebra.specs.Lead.{Normal}
 use Rattle.algebra.proofs.Divisors.{divides_self, divides_zero, divides_eq, divides_trans, divides_add, divides_rest, divides_mul_left}
-use Rattle.polynomials.specs.Elements.{Element, element_same, element_discrete, elements, coefficients, past_end, polynomial, polynomials}
+use Rattle.polynomials.specs.Elements.{element_same, element_discrete, elements, coefficients, past_end, polynomial, polynomials}
 use Rattle.polynomials.specs.Rows.{Inside, Sized}
-use Rattle.polynomials.specs.Relations.{Remainder, NormalOf, MonicGcd}
+use Rattle.polynomials.specs.Relations.{Remainder, NormalOf}
 use Rattle.polynomials.specs.Steps.{Inverts, MadeMonic, Common}
 use Rattle.polynomials.proofs.Terms.{mono, mono_mul, term, of_term}
 use Rattle.polynomials.proofs.Meaning.{of_polynomial, code_at, code_mul, code_one, size_is, cleared}

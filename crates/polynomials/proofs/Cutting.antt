@@ -1,11 +1,11 @@
 -- One step of long division, and what all of them leave.
-use Rattle.std.proofs.Common.{◌≡◌, ℕ, zero, suc, ◌+◌, ◌-◌, ◌<◌, ◌≤◌, Bool, true, false, ◌≢◌, ◌⊎◌, List, [], ◌∷◌, length, get_or, set, sym, refl, ap, ◌∙◌, ap₂, inl, inr, arith, length-set, get_or-set_other, get_or-set_same}
+use Rattle.std.proofs.Common.{◌≡◌, ℕ, ◌+◌, ◌-◌, ◌<◌, ◌≤◌, Bool, true, false, ◌≢◌, ◌⊎◌, List, [], ◌∷◌, length, get_or, set, sym, refl, ap, ◌∙◌, ap₂, inl, inr, arith, length-set, get_or-set_other, get_or-set_same}
 use Rattle.std.proofs.lemmas.Bool.{cases_lt, cases_eq}
 use Rattle.coefficients.specs.Arithmetic.{Arithmetic, Laws}
-use Rattle.algebra.specs.Ring.{Ring, ring, combine, zero_mul, zero_add}
+use Rattle.algebra.specs.Ring.{Ring, ring}
 use Rattle.algebra.specs.Polynomial.{Poly, size, size_least}
 use Rattle.algebra.specs.Solver.{by_ring, quoting}
-use Rattle.polynomials.specs.Elements.{Element, element_discrete, elements, coefficients, past_end, polynomial, polynomials}
+use Rattle.polynomials.specs.Elements.{element_discrete, elements, coefficients, past_end, polynomial, polynomials}
 use Rattle.polynomials.specs.Rows.{Inside, Sized}
 use Rattle.polynomials.specs.Relations.{Quotient, Remainder}
 use Rattle.polynomials.specs.Steps.{Lessened, Inverts}

@@ -1,13 +1,12 @@
 -- Horner's steps on a row of codes.
-use Rattle.std.proofs.Common.{◌≡◌, ℕ, zero, suc, ◌+◌, ◌-◌, ◌<◌, ◌≤◌, Bool, true, false, cond, List, length, get_or, sym, refl, ap, ◌∙◌, subst, ap₂, arith}
+use Rattle.std.proofs.Common.{◌≡◌, ℕ, zero, suc, ◌+◌, ◌-◌, ◌<◌, ◌≤◌, true, List, length, get_or, sym, ap, ◌∙◌, subst, ap₂, arith}
 use mathlib.Core.Path.{fun_ext}
 use Rattle.std.proofs.lemmas.Bool.{cond-true}
 use Rattle.coefficients.specs.Arithmetic.{Arithmetic, Laws}
-use Rattle.algebra.specs.Ring.{Ring}
 use Rattle.algebra.specs.Series.{Series}
 use Rattle.algebra.specs.Value.{value as value_of_lem, value_none, value_suc}
 use Rattle.algebra.specs.Polynomial.{at, at_of}
-use Rattle.polynomials.specs.Elements.{Element, element_same, element_discrete, elements, read, coefficients, past_end, polynomial}
+use Rattle.polynomials.specs.Elements.{Element, element_discrete, elements, read, coefficients, past_end, polynomial}
 use Rattle.polynomials.specs.Rows.{Inside}
 use Rattle.polynomials.specs.Relations.{Value}
 use Rattle.polynomials.specs.Steps.{Valued}

@@ -1,5 +1,5 @@
 -- The image of a table, from the values of its rows.
-use Rattle.std.proofs.Common.{◌≡◌, ℕ, ◌+◌, ◌*◌, ◌<◌, ◌≤◌, true, ◌⊎◌, List, [], length, get_or, take, drop, sym, refl, ap, ◌∙◌, inl, inr, mul-le-mul_left, arith, length-drop, length-take, get_or-drop, get_or-take}
+use Rattle.std.proofs.Common.{◌≡◌, ℕ, ◌+◌, ◌*◌, ◌<◌, ◌≤◌, ◌⊎◌, List, length, get_or, take, drop, sym, ap, ◌∙◌, inl, inr, mul-le-mul_left, arith, length-take, get_or-drop, get_or-take}
 use mathlib.Core.Path.{fun_ext}
 use lib.Seq.{take-nil}
 use Rattle.std.proofs.lemmas.List.{drop_all}
@@ -7,7 +7,7 @@ use Rattle.std.proofs.lemmas.Bool.{cases_lt}
 use Rattle.coefficients.specs.Arithmetic.{Arithmetic, Laws}
 use Rattle.algebra.specs.Polynomial.{poly_discrete, make_is, same, at, evaluate}
 use Rattle.algebra.specs.Change.{image, of_change}
-use Rattle.polynomials.specs.Elements.{Element, element_same, element_discrete, elements, read, coefficients, past_end, polynomial, polynomials, empty_row, polynomial_xy}
+use Rattle.polynomials.specs.Elements.{element_same, element_discrete, elements, read, coefficients, past_end, polynomial, polynomials, empty_row, polynomial_xy}
 use Rattle.polynomials.specs.Rows.{Inside, cut_row, row_of}
 use Rattle.polynomials.specs.Relations.{Value}
 use Rattle.polynomials.specs.Steps.{Valued, Imaged}

@@ -8,7 +8,7 @@ use Rattle.coefficients.specs.declared.kind.ReciprocalFault.TheVariants.{Foreign
 use Rattle.algebra.specs.Ring.{mul_zero}
 use Rattle.polynomials.specs.Elements.{Element, elements}
 use Rattle.polynomials.specs.Rows.{Inside, Sized}
-use Rattle.polynomials.specs.Steps.{Inverts, NoInverse, Undivided, Stuck, leading}
+use Rattle.polynomials.specs.Steps.{Inverts, Undivided, Stuck, leading}
 
 leading_at : (K : Arithmetic) (g : List ℕ) (n : ℕ) → 0 < n → get_or g (n - 1) 0 ≡ leading K g n
 leading_at K g zero lt = absurd (omega arith)

@@ -1,13 +1,12 @@
 -- Rows of codes and the polynomials that they mean.
-use Rattle.std.proofs.Common.{◌≡◌, ℕ, zero, suc, ◌+◌, ◌-◌, ◌<◌, ◌≤◌, Bool, true, false, cond, ◌≢◌, ◌⊎◌, List, length, get_or, set, sym, refl, ap, ◌∙◌, ap₂, inl, inr, arith, length-set, get_or-set_other, get_or-set_same}
+use Rattle.std.proofs.Common.{◌≡◌, ℕ, zero, suc, ◌+◌, ◌-◌, ◌<◌, ◌≤◌, true, cond, ◌≢◌, ◌⊎◌, List, length, get_or, set, sym, refl, ap, ◌∙◌, ap₂, inl, inr, arith, length-set, get_or-set_other, get_or-set_same}
 use mathlib.Core.Path.{fun_ext}
 use Rattle.std.proofs.lemmas.List.{get_or_past, get_or_default}
 use Rattle.std.proofs.lemmas.Bool.{cond-true, cases_lt, cases_eq}
 use Rattle.coefficients.specs.Arithmetic.{Arithmetic, Laws}
-use Rattle.algebra.specs.Ring.{ring, neg_zero, mul_zero, add_zero, zero_add}
+use Rattle.algebra.specs.Ring.{ring, mul_zero, add_zero, zero_add}
 use Rattle.algebra.specs.Series.{Series, series, at_add, at_neg, at_zero}
-use Rattle.algebra.specs.Bounded.{Below}
-use Rattle.algebra.specs.Polynomial.{Poly, size, make_is, same, size_unique, of_add, of_neg, of_mul, of_zero, Tight}
+use Rattle.algebra.specs.Polynomial.{size, make_is, same, size_unique, of_add, of_neg, of_mul, of_zero, Tight}
 use Rattle.polynomials.specs.Elements.{Element, element_same, element_discrete, elements, read, coefficients, past_end, polynomial, polynomials}
 use Rattle.polynomials.specs.Rows.{Inside, Sized}
 use Rattle.polynomials.specs.Steps.{Lessened}

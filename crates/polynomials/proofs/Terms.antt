@@ -1,8 +1,8 @@
 -- c times a power of the unknown.
-use Rattle.std.proofs.Common.{◌≡◌, ℕ, zero, suc, ◌+◌, ◌<◌, ◌≤◌, sym, refl, ap, ◌∙◌, arith}
+use Rattle.std.proofs.Common.{◌≡◌, ℕ, zero, suc, ◌+◌, ◌<◌, ◌∙◌, arith}
 use mathlib.Core.HLevel.{Discrete}
 use Rattle.algebra.specs.Ring.{Ring, ring, zero_mul, zero_add}
-use Rattle.algebra.specs.Series.{Series, series, const, cons, cons_zero, cons_suc, tail, tail_cons, at_const, at_const_mul, at_mul, at_mul_suc}
+use Rattle.algebra.specs.Series.{Series, series, const, cons, cons_zero, cons_suc, tail_cons, at_const, at_const_mul, at_mul, at_mul_suc}
 use Rattle.algebra.specs.Bounded.{Below, below_const, below_cons}
 use Rattle.algebra.specs.Polynomial.{Poly, make, make_is}
 

@@ -5,7 +5,7 @@ use Rattle.algebra.specs.Divisors.{Greatest, Associates}
 use Rattle.algebra.specs.Lead.{Normal}
 use Rattle.algebra.specs.Polynomial.{Poly, size, at}
 use Rattle.algebra.specs.Change.{image}
-use Rattle.polynomials.specs.Elements.{Element, element_discrete, elements, read, polynomial, polynomials, table}
+use Rattle.polynomials.specs.Elements.{element_discrete, elements, read, polynomial, polynomials, table}
 
 module _ {K : Arithmetic} (laws : Laws K) where
   open polynomials laws use {add as ◌⊕◌, mul as ◌⊙◌}

@@ -1,36 +1,29 @@
 -- An offer of a point that can be held, by what comes of it.
-use Rattle.std.proofs.Common.{◌≡◌, ℕ, ◌+◌, ◌-◌, ◌*◌, ◌<◌, ◌≤◌, true, false, cond, eqb, ltb, List, [], ◌∷◌, ◌++◌, length, get_or, take, set, Ok, Err, Result, sym, refl, ap, ◌∙◌, subst, ap₂, arith, length-set, length-take, le-ltb, lt-ltb}
+use Rattle.std.proofs.Common.{◌≡◌, ℕ, ◌+◌, ◌-◌, ◌<◌, false, cond, eqb, ltb, List, length, take, set, Ok, Err, Result, sym, refl, ap, ◌∙◌, subst, ap₂, arith, length-set, length-take}
 use Rattle.coefficients.specs.Arithmetic.{Arithmetic, Laws, IsField}
 use Rattle.rules.specs.declared.answer.Answer.{Answer}
-use Rattle.rules.specs.declared.answer.Answer.TheVariants as Answer
 use Rattle.rules.specs.declared.refusal.Refusal.{Refusal}
-use Rattle.rules.specs.declared.refusal.Refusal.TheVariants as Refusal
 use Rattle.rules.specs.declared.refusal.Stage.TheVariants as Stage
-use Rattle.rules.specs.Job.{image, blocked, Tested, passed, failed, blocked_test, Pair, limit, Stage, gathering, settled, void, State}
-use Rattle.rules.specs.Offer.{member, too_high, held_with, let_go, settles, overturns, stays, blocks, by_test, raised, conclude, made_void, offer}
-use Rattle.polynomials.specs.Rows.{cut_row}
+use Rattle.rules.specs.Job.{image, blocked, Tested, passed, blocked_test, limit, Stage, gathering, settled, void, State}
+use Rattle.rules.specs.Offer.{too_high, held_with, let_go, settles, stays, by_test, raised, conclude}
 use Rattle.rulebook.specs.Pairs.{pair_of}
 use Rattle.rulebook.proofs.Opening.{openable}
 use Rattle.tables.specs.declared.faults.DivisionFault.{DivisionFault}
-use Rattle.steps.specs.declared.look.ImageRows.{ImageRows}
 use Rattle.steps.specs.declared.answer.Reduction.{Reduction}
-use Rattle.steps.specs.declared.verdict.Verdict.TheVariants as Verdict
 use Rattle.steps.specs.Look.{ImagesOf}
 use Rattle.steps.specs.Prepare.{WorkingsOf}
 use Rattle.steps.specs.Faults.{Faulty}
-use Rattle.steps.specs.Answer.{ReductionOf, Free, Ends}
-use Rattle.steps.specs.Verdict.{Enough, Deciding}
-use Rattle.steps.specs.Trial.{Gathered}
+use Rattle.steps.specs.Answer.{ReductionOf, Free}
 use Rattle.reducer.specs.declared.standing.Standing.TheVariants as Standing
 use Rattle.reducer.specs.declared.job.Job.{Job}
 use Rattle.reducer.specs.State.{stage_of, tally_of, state_of}
 use Rattle.reducer.specs.Sound.{Holds, Gathers, Sound, element_of, Lacks}
-use Rattle.reducer.specs.Promises.{Owed, NotFive, Offered}
-use Rattle.reducer.specs.Holding.{Fresh, SameRows, moved, Fitting, Complete}
+use Rattle.reducer.specs.Promises.{NotFive, Offered}
+use Rattle.reducer.specs.Holding.{Fresh, moved}
 use Rattle.reducer.proofs.Branches.{offer_fitting, offer_stuck, verdict_constant, verdict_tested, verdict_stays}
-use Rattle.reducer.proofs.Found.{faulty_lacks, faulty_field, prepared, found_image, found_passed, found_failed, found_closing, free_of_x}
+use Rattle.reducer.proofs.Found.{faulty_lacks, faulty_field, found_image, found_closing, free_of_x}
 use Rattle.reducer.proofs.Offers.{found, found_owed, build, not_blocked, not_blocked_test}
-use Rattle.reducer.proofs.Keeping.{kept_some, kept_with, gone_number, holds_with, holds_none, take_last, gathered_first}
+use Rattle.reducer.proofs.Keeping.{kept_some, kept_with, gone_number}
 use Rattle.reducer.proofs.Sounds.{holds_kept, sound_gathering, sound_settled, sound_void}
 
 -- the job after a point α is written behind n others

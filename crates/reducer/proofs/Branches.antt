@@ -1,10 +1,7 @@
 -- The rule of an offer, one way at a time, for any answers of a pair.
-use Rattle.std.proofs.Common.{◌≡◌, ℕ, ◌+◌, ◌<◌, ◌≤◌, Bool, true, false, cond, not, eqb, ltb, leb, List, [], ◌∷◌, ◌++◌, length, Ok, Err, Result, sym, refl, ap, ◌∙◌, ap₂, arith, eq-eqb, ne_eqb, le-leb}
+use Rattle.std.proofs.Common.{◌≡◌, ℕ, ◌<◌, ◌≤◌, true, false, cond, not, leb, List, length, Err, refl, ap, ◌∙◌, ap₂, eq-eqb, ne_eqb, le-leb}
 use borrow.Author.Tests.{lt-leb}
-use Rattle.rules.specs.declared.answer.Answer.{Answer}
-use Rattle.rules.specs.declared.answer.Answer.TheVariants as Answer
 use Rattle.rules.specs.declared.refusal.Refusal.{Refusal}
-use Rattle.rules.specs.declared.refusal.Refusal.TheVariants as Refusal
 use Rattle.rules.specs.Job.{Finding, zero_lead, image, blocked, Tested, Pair, limit, Stage, gathering, settled, void, State, counts}
 use Rattle.rules.specs.Offer.{Class, voided, full, late, foreign, repeated, vanishing, high, fitting, stuck, member, too_high, by_finding, class_of, held_with, let_go, Verdict, settles, stays, by_test, verdict_on, raised, counting, made_void, conclude, answered, offer}
 

@@ -1,6 +1,6 @@
 -- After any list of calls, one more.
 use Rattle.std.proofs.Common.{◌≡◌, ℕ, List, [], ◌∷◌, ◌++◌, sym, refl, ap, ◌∙◌, subst}
-use Rattle.coefficients.specs.Arithmetic.{Arithmetic, Laws, IsField}
+use Rattle.coefficients.specs.Arithmetic.{Arithmetic, IsField}
 use Rattle.rules.specs.Job.{Pair, State}
 use Rattle.rules.specs.Run.{Call, called, play, points_offered}
 use Rattle.rulebook.specs.Pairs.{pair_of}

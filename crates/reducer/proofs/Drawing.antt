@@ -7,10 +7,10 @@ use Rattle.rules.specs.declared.refusal.Refusal.{Refusal}
 use Rattle.rules.specs.declared.refusal.Refusal.TheVariants.{Settled, Full, Spent, Empty}
 use Rattle.rules.specs.Job.{Pair, limit, Stage, gathering, settled, void, State, counts}
 use Rattle.rules.specs.Offer.{offer}
-use Rattle.rules.specs.Run.{Check, stop, go, check, Outcome, outcome, either, draw_on, run}
+use Rattle.rules.specs.Run.{stop, go, check, Outcome, outcome, either, draw_on}
 use Rattle.rulebook.specs.Pairs.{pair_of}
 use Rattle.points.specs.Waiting.{Drawn}
-use Rattle.reducer.specs.Promises.{Owed, Offered, Draws, stops, empty, draws, Drawing, Runs}
+use Rattle.reducer.specs.Promises.{Offered, Draws, stops, empty, draws, Drawing, Runs}
 
 -- the run has come from the job s₀ and the list w₀ to s and w, with so many points drawn
 pub record Going (K : Arithmetic) (a b : List ℕ) (n : ℕ) (s₀ : State) (w₀ : List ℕ) (s : State) (drawn : ℕ) (w : List ℕ) : Type 0 where

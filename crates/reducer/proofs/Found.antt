@@ -1,16 +1,15 @@
 -- Over a field: what is found of two tables is what the rules compute of them.
-use Rattle.std.proofs.Common.{◌≡◌, ℕ, suc, ◌<◌, ◌≤◌, true, ◌⊎◌, List, [], ◌∷◌, map, length, None, sym, refl, ap, ◌∙◌, subst, ap₂, inl, inr, arith}
+use Rattle.std.proofs.Common.{◌≡◌, ℕ, suc, true, List, [], ◌∷◌, map, None, sym, refl, ap, ◌∙◌, subst, ap₂, inl, inr, arith}
 use Rattle.coefficients.specs.Arithmetic.{Arithmetic, Laws, IsField}
-use Rattle.coefficients.specs.declared.kind.ReciprocalFault.{ReciprocalFault}
 use Rattle.coefficients.specs.declared.kind.ReciprocalFault.TheVariants.{Foreign, NoReciprocal}
 use Rattle.bivariate.specs.Degrees.{deg_x}
 use Rattle.brown.specs.Prepared.{Prepared}
 use Rattle.brown.specs.Joined.{Passes}
 use Rattle.brown.proofs.Images.{images}
 use Rattle.brown.proofs.Preparation.{preparation}
-use Rattle.polynomials.specs.Elements.{Element, element_discrete, elements, read, table}
+use Rattle.polynomials.specs.Elements.{elements, read, table}
 use Rattle.polynomials.specs.Rows.{Inside}
-use Rattle.rules.specs.Job.{zero_lead, image, passed, failed, Pair}
+use Rattle.rules.specs.Job.{zero_lead, image, passed, failed}
 use Rattle.method.specs.Right.{Right}
 use Rattle.tables.specs.declared.faults.DivisionFault.{DivisionFault}
 use Rattle.tables.specs.declared.faults.DivisionFault.TheVariants.{Reciprocal, Uneven}

@@ -1,14 +1,13 @@
 -- A point that is held: the points and images after it, and the rule's answer.
-use Rattle.std.proofs.Common.{◌≡◌, ℕ, zero, suc, ◌+◌, ◌-◌, ◌*◌, ◌<◌, ◌≤◌, Bool, true, false, cond, ◌&&◌, ◌||◌, eqb, ltb, leb, ◌⊎◌, List, [], ◌∷◌, ◌++◌, length, get_or, take, drop, set, sym, refl, ap, ◌∙◌, subst, ap₂, inl, inr, add-one, arith, length-take, get_or-take, take-suc-set, ltb-false, ltb-true}
+use Rattle.std.proofs.Common.{◌≡◌, ℕ, zero, suc, ◌+◌, ◌-◌, ◌*◌, ◌<◌, ◌≤◌, Bool, true, false, cond, ◌&&◌, ◌||◌, eqb, ltb, leb, ◌⊎◌, List, [], ◌∷◌, ◌++◌, length, get_or, take, drop, set, sym, refl, ap, ◌∙◌, subst, inl, inr, add-one, arith, length-take, get_or-take, take-suc-set, ltb-false}
 use borrow.Author.Tests.{eqb-false}
 use Rattle.std.proofs.lemmas.List.{drop-take, take-take}
-use Rattle.std.proofs.lemmas.Bool.{cases_lt, cases_eq}
-use Rattle.coefficients.specs.Arithmetic.{Arithmetic, Laws, IsField}
+use Rattle.std.proofs.lemmas.Bool.{cases_eq}
+use Rattle.coefficients.specs.Arithmetic.{Arithmetic}
 use Rattle.algebra.specs.Lists.{All, Distinct}
 use Rattle.polynomials.specs.Rows.{cut_row}
 use Rattle.rules.specs.Job.{State}
-use Rattle.rules.specs.Offer.{member, any, too_high, kept, let_go, held_with}
-use Rattle.steps.specs.declared.look.ImageRows.{ImageRows}
+use Rattle.rules.specs.Offer.{member, any, too_high, let_go, held_with}
 use Rattle.steps.specs.Look.{ImagesOf}
 use Rattle.steps.specs.Trial.{Gathered}
 use Rattle.reducer.specs.declared.job.Job.{Job}

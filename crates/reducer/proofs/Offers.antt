@@ -1,27 +1,21 @@
 -- An offer, way by way: what was found makes the rule's answer and job, over a field and over any kind.
-use Rattle.std.proofs.Common.{◌≡◌, ℕ, ◌+◌, ◌<◌, ◌≤◌, true, false, List, length, take, None, Ok, Err, Result, sym, refl, ap, ◌∙◌, subst, ap₂, arith, length-take, rules}
+use Rattle.std.proofs.Common.{◌≡◌, ℕ, ◌<◌, ◌≤◌, true, false, List, length, take, Err, Result, sym, refl, ap, ◌∙◌, subst, arith, length-take}
 use Rattle.coefficients.specs.Arithmetic.{Arithmetic, Laws, IsField}
 use Rattle.rules.specs.declared.answer.Answer.{Answer}
 use Rattle.rules.specs.declared.counts.Counts.{Counts}
 use Rattle.rules.specs.declared.refusal.Refusal.{Refusal}
-use Rattle.rules.specs.declared.refusal.Refusal.TheVariants as Refusal
 use Rattle.rules.specs.declared.refusal.Stage.TheVariants as Stage
-use Rattle.rules.specs.Job.{Finding, zero_lead, image, blocked, Tested, passed, blocked_test, Pair, limit, gathering, settled, void, State, counts}
-use Rattle.rules.specs.Offer.{member, too_high, raised, counting, made_void, offer}
-use Rattle.tables.specs.declared.faults.DivisionFault.{DivisionFault}
+use Rattle.rules.specs.Job.{Finding, zero_lead, image, blocked, Tested, passed, blocked_test, Pair, limit, void, State, counts}
+use Rattle.rules.specs.Offer.{member, counting, offer}
 use Rattle.rulebook.specs.Pairs.{pair_of}
 use Rattle.rulebook.proofs.Right.{pair_element}
-use Rattle.steps.specs.declared.look.ImageRows.{ImageRows}
-use Rattle.steps.specs.declared.look.Finding.TheVariants as Finding
-use Rattle.steps.specs.Look.{ImagesOf, Looking}
 use Rattle.reducer.specs.declared.standing.Standing.{Standing}
-use Rattle.reducer.specs.declared.standing.Standing.TheVariants as Standing
 use Rattle.reducer.specs.declared.job.Job.{Job}
 use Rattle.reducer.specs.declared.counting.Tallied.TheVariants as Tallied
-use Rattle.reducer.specs.State.{stage_of, tally_of, tallied, state_of}
-use Rattle.reducer.specs.Sound.{Gathers, Sound, element_of, Lacks}
+use Rattle.reducer.specs.State.{stage_of, tallied, state_of}
+use Rattle.reducer.specs.Sound.{Sound, Lacks}
 use Rattle.reducer.specs.Promises.{Owed, NotFive, Offered}
-use Rattle.reducer.specs.Holding.{Fresh, Classed, Kept, moved, Fitting}
+use Rattle.reducer.specs.Holding.{Classed, Kept, moved}
 use Rattle.reducer.specs.declared.offering.Class.TheVariants as Class
 use Rattle.reducer.proofs.Branches.{offer_void, offer_full, offer_late, offer_foreign, offer_repeated, offer_vanishing, offer_high, offer_stuck}
 use Rattle.reducer.proofs.Found.{faulty_lacks, faulty_field, prepared, found_vanishing, found_image}

@@ -1,11 +1,8 @@
 -- What a job stores stays so of its tables.
-use Rattle.std.proofs.Common.{◌≡◌, ℕ, zero, suc, ◌+◌, ◌*◌, ◌<◌, ◌≤◌, true, false, ◌||◌, eqb, ◌⊎◌, List, [], ◌∷◌, ◌++◌, length, get_or, take, set, sym, ap, ◌∙◌, subst, inl, inr, add-one, arith}
-use borrow.Author.Tests.{eqb-false}
+use Rattle.std.proofs.Common.{◌≡◌, ℕ, ◌<◌, ◌≤◌, List, sym, subst, arith}
 use Rattle.coefficients.specs.Arithmetic.{Arithmetic, IsField}
-use Rattle.algebra.specs.Lists.{All, Distinct}
 use Rattle.rules.specs.declared.refusal.Refusal.{Refusal}
 use Rattle.rules.specs.Numbers.{number}
-use Rattle.rules.specs.Offer.{member}
 use Rattle.steps.specs.Prepare.{WorkingsOf}
 use Rattle.steps.specs.Answer.{ReductionOf}
 use Rattle.reducer.specs.declared.standing.Standing.{Standing}

@@ -1,5 +1,5 @@
 -- What an offered point is found to be, and what comes of one that can be held.
-use Rattle.std.specs.Prelude.{◌≡◌, ℕ, ◌+◌, ◌-◌, ◌<◌, ◌≤◌, true, false, cond, List, take, Result, nat_lt, slice_index}
+use Rattle.std.specs.Prelude.{◌≡◌, ℕ, ◌+◌, ◌<◌, ◌≤◌, true, false, cond, List, take, Result, nat_lt, slice_index}
 use Rattle.coefficients.specs.Arithmetic.{Arithmetic}
 use Rattle.rules.specs.declared.answer.Answer.{Answer}
 use Rattle.rules.specs.declared.refusal.Refusal.{Refusal}
@@ -12,9 +12,7 @@ use Rattle.steps.specs.Look.{ImagesOf, Looking}
 use Rattle.reducer.specs.declared.job.Job.{Job}
 use Rattle.reducer.specs.declared.standing.Standing.TheVariants as Standing
 use Rattle.reducer.specs.declared.offering.Phase.{Phase}
-use Rattle.reducer.specs.declared.offering.Phase.TheVariants as Phase
 use Rattle.reducer.specs.declared.offering.Class.{Class}
-use Rattle.reducer.specs.declared.offering.Class.TheVariants as Class
 use Rattle.reducer.specs.State.{tally_of, state_of}
 use Rattle.reducer.specs.Sound.{Holds, Gathers, Sound, element_of}
 use Rattle.reducer.specs.Promises.{Offered}

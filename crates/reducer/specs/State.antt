@@ -1,10 +1,9 @@
 -- A job as the rules see it.
-use Rattle.std.specs.Prelude.{List, take}
+use Rattle.std.specs.Prelude.{take}
 use Rattle.rules.specs.declared.counts.Counts.{Counts}
 use Rattle.rules.specs.Job.{Tally, Stage, gathering, settled, void, State}
 use Rattle.rules.specs.Offer.{raised}
 use Rattle.reducer.specs.declared.standing.Standing.{Standing}
-use Rattle.reducer.specs.declared.standing.Standing.TheVariants as Standing
 use Rattle.reducer.specs.declared.job.Job.{Job}
 use Rattle.reducer.specs.declared.counting.Tallied.{Tallied}
 use Rattle.reducer.specs.declared.counting.Tallied.TheVariants.{Foreign, Repeated, Vanishing, High, Late}

@@ -3,7 +3,6 @@ use Rattle.std.specs.Prelude.{◌≡◌, ℕ, suc, Bool, false, cond, List, [], 
 use Rattle.rules.specs.declared.counts.Counts.{Counts}
 use Rattle.rules.specs.declared.answer.Answer.TheVariants as Answer
 use Rattle.rules.specs.declared.refusal.Refusal.{Refusal}
-use Rattle.rules.specs.declared.refusal.Refusal.TheVariants as Refusal
 use Rattle.rules.specs.declared.refusal.Stage.TheVariants.{Offer}
 use Rattle.rules.specs.Job.{zero_lead, image, blocked, Tested, passed, failed, blocked_test, Pair, Stage, gathering, settled, State, counts, opened, refused}
 use Rattle.rules.specs.Offer.{offer}

@@ -1,9 +1,7 @@
 -- The rule of an offer: first what the offer is found to be, then what is done.
 use Rattle.std.specs.Prelude.{ℕ, ◌+◌, Bool, true, false, cond, not, ◌&&◌, ◌||◌, leb, List, [], ◌∷◌, ◌++◌, length, Ok, Err, Result, ◌==◌, nat_le, nat_lt}
 use Rattle.rules.specs.declared.answer.Answer.{Answer}
-use Rattle.rules.specs.declared.answer.Answer.TheVariants as Answer
 use Rattle.rules.specs.declared.refusal.Refusal.{Refusal}
-use Rattle.rules.specs.declared.refusal.Refusal.TheVariants as Refusal
 use Rattle.rules.specs.declared.refusal.Stage.TheVariants as Stage
 use Rattle.rules.specs.Job.{Finding, zero_lead, image, blocked, Tested, passed, failed, blocked_test, Pair, limit, Tally, gathering, settled, void, State, counts}
 

@@ -1,9 +1,8 @@
 -- What comes of as many points as the closing number.
 use Rattle.std.proofs.Common.{◌≡◌, ℕ, true, false, List, map, Ok, Err, Result, refl, subst, arith}
 use Rattle.coefficients.specs.Arithmetic.{Arithmetic, Laws, IsField}
-use Rattle.bivariate.specs.Degrees.{deg_x}
 use Rattle.brown.specs.Prepared.{Prepared}
-use Rattle.brown.specs.Joined.{Sample, Passes}
+use Rattle.brown.specs.Joined.{Sample}
 use Rattle.brown.specs.Theorems.{Answer}
 use Rattle.brown.proofs.Test.{test}
 use Rattle.polynomials.specs.Elements.{read, polynomial_xy, table}
@@ -13,10 +12,9 @@ use Rattle.steps.specs.declared.prepare.Workings.{Workings}
 use Rattle.steps.specs.declared.trial.JoinedRows.{JoinedRows}
 use Rattle.steps.specs.declared.answer.Reduction.{Reduction}
 use Rattle.steps.specs.declared.verdict.Verdict.TheVariants.{Passed, Failed, Blocked}
-use Rattle.steps.specs.Faults.{Faulty}
-use Rattle.steps.specs.Trial.{JoinedOf, Joins, Trying}
-use Rattle.steps.specs.Answer.{ReductionOf, Ends, Closing}
-use Rattle.steps.specs.Verdict.{Tested, Enough, Deciding}
+use Rattle.steps.specs.Trial.{Joins, Trying}
+use Rattle.steps.specs.Answer.{Ends, Closing}
+use Rattle.steps.specs.Verdict.{Enough, Deciding}
 
 module _ {K : Arithmetic} (w : Workings) (points ds ls rs : List ℕ) (j : JoinedRows) (joins : Joins K points ds ls rs (Ok j)) where
   pub failing : Trying K w j false → Deciding K w points ds ls rs Failed

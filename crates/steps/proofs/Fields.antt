@@ -1,5 +1,5 @@
 -- Over a field: the field of elements with its ring in sight, and the faults that it never gives.
-use Rattle.std.proofs.Common.{◌≡◌, ℕ, List, refl}
+use Rattle.std.proofs.Common.{◌≡◌, refl}
 use Rattle.coefficients.specs.Arithmetic.{Arithmetic, Laws, IsField}
 use Rattle.algebra.specs.Polynomial.{Poly}
 use Rattle.algebra.specs.Change.{Poly₂}

@@ -1,19 +1,16 @@
 -- Two tables, prepared: contents, parts, what their leading coefficients share, and the numbers.
-use Rattle.std.proofs.Common.{◌≡◌, ℕ, pred, ◌+◌, ◌≤◌, min, max, ◌⊎◌, List, Ok, Err, Result, sym, refl, ap, ◌∙◌, subst, ap₂, inl, inr, arith}
+use Rattle.std.proofs.Common.{◌≡◌, ℕ, pred, ◌+◌, min, max, List, Ok, Err, sym, ap, ◌∙◌, subst, ap₂, inl, inr, arith}
 use Rattle.coefficients.specs.Arithmetic.{Arithmetic, Laws, IsField}
 use Rattle.coefficients.specs.declared.kind.ReciprocalFault.{ReciprocalFault}
-use Rattle.coefficients.specs.declared.kind.ReciprocalFault.TheVariants.{NoReciprocal}
 use Rattle.algebra.specs.Divisors.{Greatest}
-use Rattle.algebra.specs.Lead.{Monic}
 use Rattle.algebra.specs.Polynomial.{poly, size}
 use Rattle.algebra.proofs.OneUnknown.{gcd}
 use Rattle.bivariate.specs.Degrees.{K[y][x], deg, deg_x, deg_y, lead_x, width}
 use Rattle.bivariate.specs.TwoUnknowns.{Content}
 use Rattle.bivariate.proofs.Contents.{contents}
-use Rattle.brown.specs.Prepared.{Prepared, closing_number, ceiling}
+use Rattle.brown.specs.Prepared.{Prepared}
 use Rattle.polynomials.specs.Elements.{element_discrete, elements, polynomial, polynomials, table}
 use Rattle.polynomials.specs.Rows.{Inside, Sized}
-use Rattle.polynomials.specs.Steps.{Stuck}
 use Rattle.polynomials.proofs.Meaning.{size_is}
 use Rattle.tables.specs.declared.faults.DivisionFault.{DivisionFault}
 use Rattle.tables.specs.declared.faults.DivisionFault.TheVariants.{Reciprocal, Uneven}
@@ -24,7 +21,7 @@ use Rattle.values.specs.Meaning.{scalars}
 use Rattle.steps.specs.declared.prepare.Part.{Part}
 use Rattle.steps.specs.declared.prepare.Workings.{Workings}
 use Rattle.steps.specs.Faults.{Faulty}
-use Rattle.steps.specs.Prepare.{Nonzero, PartOf, Low, Parting, SameAs, WorkingsOf, Narrow, Preparing}
+use Rattle.steps.specs.Prepare.{PartOf, Parting, SameAs, WorkingsOf}
 use Rattle.steps.proofs.Fields.{content_here, width_here}
 
 -- what a content refuses

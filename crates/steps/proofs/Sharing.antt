@@ -1,10 +1,9 @@
 -- What two rows share: the faults that a field never gives.
-use Rattle.std.proofs.Common.{◌≡◌, ℕ, zero, suc, List, Ok, Err, sym, ap, ◌∙◌, inl, arith}
+use Rattle.std.proofs.Common.{◌≡◌, ℕ, zero, suc, List, Ok, Err, ap, ◌∙◌, inl, arith}
 use Rattle.coefficients.specs.Arithmetic.{Arithmetic, Laws, IsField}
 use Rattle.coefficients.specs.declared.kind.ReciprocalFault.{ReciprocalFault}
 use Rattle.coefficients.specs.declared.kind.ReciprocalFault.TheVariants.{NoReciprocal}
 use Rattle.algebra.specs.Ring.{zero_mul}
-use Rattle.algebra.specs.Divisors.{Divides}
 use Rattle.polynomials.specs.Elements.{polynomial, polynomials}
 use Rattle.polynomials.specs.Relations.{MonicGcd}
 use Rattle.polynomials.specs.Rows.{Inside, Sized}
@@ -16,7 +15,7 @@ use Rattle.tables.specs.declared.faults.DivisionFault.TheVariants.{Reciprocal, U
 use Rattle.tables.specs.Content.{Even}
 use Rattle.steps.specs.declared.share.Shares.{Shares}
 use Rattle.steps.specs.Faults.{Faulty}
-use Rattle.steps.specs.Share.{Shared, SharesOf, Sharing}
+use Rattle.steps.specs.Share.{SharesOf, Sharing}
 
 -- an element without a reciprocal, where a field would have one
 pub stuck_faulty : {K : Arithmetic} (e : ReciprocalFault) → (c : ℕ) × (e ≡ NoReciprocal c) × Stuck K c → Faulty K (Reciprocal e)

@@ -1,15 +1,15 @@
 -- What is joined from the images at points, and the test of it.
-use Rattle.std.proofs.Common.{◌≡◌, ℕ, zero, suc, pred, ◌+◌, ◌-◌, ◌*◌, ◌/◌, ◌<◌, ◌≤◌, Bool, true, false, ◌&&◌, ◌⊎◌, ◌↔◌, List, [], ◌∷◌, map, length, get_or, Ok, Err, sym, refl, ap, ◌∙◌, subst, ap₂, inl, inr, arith}
+use Rattle.std.proofs.Common.{◌≡◌, ℕ, suc, pred, ◌+◌, ◌-◌, ◌*◌, ◌/◌, ◌<◌, ◌≤◌, Bool, true, ◌⊎◌, ◌↔◌, List, [], ◌∷◌, map, length, get_or, Ok, Err, sym, refl, ap, ◌∙◌, subst, ap₂, inl, inr, arith}
 use Rattle.std.proofs.lemmas.Bool.{cases_lt}
 use Rattle.coefficients.specs.Arithmetic.{Arithmetic, Laws, IsField}
 use Rattle.coefficients.specs.declared.kind.ReciprocalFault.{ReciprocalFault}
 use Rattle.algebra.specs.Lists.{All, Distinct}
 use Rattle.algebra.specs.Polynomial.{Poly, size}
 use Rattle.algebra.proofs.Degrees.{size_of_zero}
-use Rattle.bivariate.specs.Degrees.{deg_y, Within, width}
+use Rattle.bivariate.specs.Degrees.{deg_y, Within}
 use Rattle.brown.specs.Prepared.{Prepared, closing_number}
-use Rattle.brown.specs.Joined.{Fits, Sample, JoinedAt, Joined, Passes}
-use Rattle.polynomials.specs.Elements.{Element, element_discrete, elements, read, polynomial, polynomials, polynomial_xy, table}
+use Rattle.brown.specs.Joined.{Fits, JoinedAt}
+use Rattle.polynomials.specs.Elements.{Element, element_discrete, elements, read, polynomials, polynomial_xy, table}
 use Rattle.polynomials.specs.Rows.{Inside, cut_row}
 use Rattle.tables.specs.declared.faults.DivisionFault.TheVariants.{Reciprocal}
 use Rattle.tables.specs.Degrees.{SizeY}
@@ -21,9 +21,8 @@ use Rattle.values.specs.Meaning.{scalars}
 use Rattle.steps.specs.declared.prepare.Workings.{Workings}
 use Rattle.steps.specs.declared.trial.JoinedRows.{JoinedRows}
 use Rattle.steps.specs.Faults.{Faulty}
-use Rattle.steps.specs.Prepare.{SameAs, WorkingsOf}
-use Rattle.steps.specs.Look.{ImageAt, ImagesOf}
-use Rattle.steps.specs.Trial.{Gathered, ElementsIn, JoinedOf, Joins, Trying}
+use Rattle.steps.specs.Prepare.{SameAs}
+use Rattle.steps.specs.Trial.{JoinedOf, Joins, Trying}
 use Rattle.steps.proofs.Fields.{width_here}
 
 -- rows of 16 elements each

@@ -14,7 +14,6 @@ use Rattle.values.specs.Meaning.{scalars}
 use Rattle.steps.specs.declared.prepare.Workings.{Workings}
 use Rattle.steps.specs.declared.look.ImageRows.{ImageRows}
 use Rattle.steps.specs.declared.look.Finding.{Finding}
-use Rattle.steps.specs.declared.look.Finding.TheVariants as Finding
 use Rattle.steps.specs.Faults.{Faulty}
 use Rattle.steps.specs.Prepare.{WorkingsOf}
 

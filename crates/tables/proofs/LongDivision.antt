@@ -24,9 +24,9 @@ use Rattle.polynomials.proofs.Terms.{mono, mono_at, mono_under, mono_below, mono
 use Rattle.tables.specs.declared.faults.DivisionFault.{DivisionFault}
 use Rattle.tables.specs.declared.faults.DivisionFault.TheVariants.{Reciprocal, Uneven}
 use Rattle.tables.specs.Degrees.{ZeroRow, SizedX}
-use Rattle.tables.specs.Exact.{Cut, CutTop, NoCut, NoMultipleOf, DividedTable}
+use Rattle.tables.specs.Exact.{Cut, CutTop, NoCut, DividedTable}
 use Rattle.tables.proofs.CutRows.{cut_row_code}
-use Rattle.tables.proofs.Sizes.{row_length, row_inside, of_rows, of_past, size_x_is}
+use Rattle.tables.proofs.Sizes.{row_length, of_rows, of_past, size_x_is}
 
 -- a step keeps the sum
 module _ {E : Type 0} (R : Ring E) where

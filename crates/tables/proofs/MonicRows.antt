@@ -1,10 +1,10 @@
 -- All rows of a table times the reciprocal of its leading code.
-use Rattle.std.proofs.Common.{◌≡◌, ℕ, suc, ◌+◌, ◌-◌, ◌*◌, ◌<◌, ◌≤◌, true, ◌⊎◌, List, length, get_or, drop, sym, ap, ◌∙◌, subst, inl, inr, arith, length-drop, length-take}
+use Rattle.std.proofs.Common.{◌≡◌, ℕ, suc, ◌+◌, ◌-◌, ◌*◌, ◌<◌, ◌≤◌, ◌⊎◌, List, length, get_or, drop, sym, ap, ◌∙◌, subst, inl, inr, arith, length-drop, length-take}
 use mathlib.Core.Path.{fun_ext}
 use Rattle.std.proofs.lemmas.Bool.{cases_lt}
 use Rattle.coefficients.specs.Arithmetic.{Arithmetic, Laws}
 use Rattle.algebra.specs.Ring.{mul_zero, mul_one, one_mul}
-use Rattle.algebra.specs.Lead.{LeadIs, Monic}
+use Rattle.algebra.specs.Lead.{Monic}
 use Rattle.algebra.specs.Polynomial.{Poly, poly_discrete, size, same}
 use Rattle.algebra.specs.Change.{poly₂, number, number_one}
 use Rattle.algebra.proofs.Degrees.{coef_scale}
@@ -15,7 +15,7 @@ use Rattle.tables.specs.Degrees.{SizedX}
 use Rattle.tables.specs.Scale.{constant, MonicOf}
 use Rattle.polynomials.proofs.Meaning.{of_polynomial, code_at, code_mul, code_one, size_is}
 use Rattle.polynomials.proofs.Inverse.{zero_product}
-use Rattle.polynomials.proofs.Common.{scaled_inside, scaled_sized, scaled_normal}
+use Rattle.polynomials.proofs.Common.{scaled_sized, scaled_normal}
 use Rattle.tables.proofs.CutRows.{cut_row_code}
 use Rattle.tables.proofs.Sizes.{row_inside, of_rows, size_x_is, sized_zero, sized_some}
 

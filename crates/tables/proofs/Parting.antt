@@ -5,8 +5,8 @@ use Rattle.coefficients.specs.Arithmetic.{Arithmetic, Laws, IsField}
 use Rattle.algebra.specs.Ring.{zero_mul, mul_one, mul_assoc}
 use Rattle.algebra.specs.Divisors.{Divides, Invertible}
 use Rattle.algebra.specs.Field.{field_domain}
-use Rattle.algebra.specs.Lead.{lead, Monic}
-use Rattle.algebra.specs.Polynomial.{Poly, poly_discrete, size, same}
+use Rattle.algebra.specs.Lead.{Monic}
+use Rattle.algebra.specs.Polynomial.{Poly, poly_discrete, same}
 use Rattle.algebra.specs.Change.{poly₂}
 use Rattle.algebra.proofs.Divisors.{divides_zero, divides_eq, cancel}
 use Rattle.algebra.proofs.Euclid.{size_zero}

@@ -4,16 +4,16 @@ use mathlib.Core.Path.{fun_ext}
 use Rattle.std.proofs.lemmas.List.{get_or_past}
 use Rattle.std.proofs.lemmas.Bool.{cases_lt}
 use Rattle.coefficients.specs.Arithmetic.{Arithmetic, Laws}
-use Rattle.algebra.specs.Ring.{ring, one_mul, mul_zero, neg_zero, add_zero}
+use Rattle.algebra.specs.Ring.{one_mul, mul_zero, neg_zero, add_zero}
 use Rattle.algebra.specs.Polynomial.{Poly, poly_discrete, same}
 use Rattle.algebra.specs.Change.{number, number_one}
 use Rattle.algebra.proofs.Degrees.{coef_scale}
-use Rattle.polynomials.specs.Elements.{Element, element_same, element_discrete, elements, coefficients, polynomial, polynomials, polynomial_xy}
+use Rattle.polynomials.specs.Elements.{element_same, element_discrete, elements, polynomial, polynomials, polynomial_xy}
 use Rattle.polynomials.specs.Rows.{Inside, cut_row}
 use Rattle.polynomials.specs.Steps.{Lessened}
 use Rattle.tables.specs.Degrees.{SizedX}
-use Rattle.tables.specs.Scale.{NoPlace, ManyTimes}
-use Rattle.tables.specs.Exact.{LessMultiple, NoRoom, Taking}
+use Rattle.tables.specs.Scale.{ManyTimes}
+use Rattle.tables.specs.Exact.{LessMultiple, Taking}
 use Rattle.polynomials.proofs.Meaning.{of_polynomial, same_at, lessened, cleared, code_one}
 use Rattle.polynomials.proofs.Terms.{term}
 use Rattle.tables.proofs.CutRows.{cut_row_code, cut_row_length}

@@ -4,7 +4,7 @@ use Rattle.std.proofs.Common.{◌≡◌, ℕ, suc, ◌+◌, ◌-◌, ◌*◌, �
 use Rattle.std.proofs.lemmas.Slice.{drop-put_mid}
 use Rattle.std.proofs.lemmas.Bool.{cases_lt}
 use Rattle.coefficients.specs.Arithmetic.{Arithmetic, Laws}
-use Rattle.polynomials.specs.Elements.{polynomial, polynomials, polynomial_xy}
+use Rattle.polynomials.specs.Elements.{polynomial, polynomials}
 use Rattle.polynomials.specs.Rows.{Inside, cut_row}
 use Rattle.polynomials.proofs.Inverse.{stuck}
 use Rattle.tables.specs.declared.faults.DivisionFault.{DivisionFault}

@@ -1,5 +1,5 @@
 -- Content and primitive part of rows over a field, and the gcd of the leading coefficients of two primitive parts.
-use Rattle.std.proofs.Common.{◌≡◌, ℕ, zero, suc, List, [], ◌∷◌, sym, refl, ap, ◌∙◌, ap₂}
+use Rattle.std.proofs.Common.{◌≡◌, ℕ, suc, List, [], ◌∷◌, sym, refl, ap, ◌∙◌, ap₂}
 use Rattle.coefficients.specs.Arithmetic.{Arithmetic, Laws, IsField}
 use Rattle.algebra.specs.Ring.{Ring, mul_one, mul_assoc}
 use Rattle.algebra.specs.Divisors.{Divides, Invertible, Greatest}
@@ -13,13 +13,12 @@ use Rattle.algebra.proofs.Euclid.{size_zero}
 use Rattle.algebra.proofs.Degrees.{coef_scale}
 use Rattle.bivariate.specs.Degrees.{lead_x}
 use Rattle.bivariate.specs.Primitive.{Primitive}
-use Rattle.bivariate.specs.TwoUnknowns.{Content}
 use Rattle.bivariate.proofs.Contents.{contents}
 use Rattle.bivariate.proofs.Domain.{left_nonzero, right_nonzero, cancel_y}
 use Rattle.polynomials.specs.Elements.{Element, element_discrete, elements, read, polynomial, polynomials}
 use Rattle.polynomials.specs.Relations.{MonicGcd}
 use Rattle.values.specs.Ops.{codes, lists, lead}
-use Rattle.values.specs.Values.{gcd, content, over, primitive, lead_gcd}
+use Rattle.values.specs.Values.{content, primitive, lead_gcd}
 use Rattle.values.specs.Meaning.{In, TrimmedY, TrimmedYx, polynomial₂, scalars}
 use Rattle.values.specs.Relations.{Unique, Multiple, ContentOf, GcdOfLeads}
 use Rattle.values.proofs.Grow.{grow_first, grow_rest}

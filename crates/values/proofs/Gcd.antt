@@ -3,7 +3,6 @@ use Rattle.std.proofs.Common.{◌≡◌, ℕ, zero, suc, ◌<◌, List, [], ◌�
 use Rattle.coefficients.specs.Arithmetic.{Arithmetic, Laws, IsField}
 use Rattle.algebra.specs.Ring.{Ring, combine, mul_zero, mul_comm, add_zero}
 use Rattle.algebra.specs.Divisors.{Divides, Greatest}
-use Rattle.algebra.specs.Lead.{Monic}
 use Rattle.algebra.specs.Field.{Field, field_domain}
 use Rattle.algebra.specs.Polynomial.{Poly, size}
 use Rattle.algebra.specs.Change.{number, number_one, number_mul}

@@ -1,4 +1,4 @@
-use Rattle.std.proofs.Common.{refl, arith}
+use Rattle.std.proofs.Common.{refl}
 use Rattle.coefficients.specs.Byte.{times, x_times}
 use Rattle.coefficients.specs.Tables.{log_at, powers_from, logs_from}
 use Rattle.coefficients.proofs.bytes.log.Goals as goal

@@ -1,4 +1,4 @@
-use Rattle.std.proofs.Common.{◌≡◌, ℕ, ◌+◌, ◌<◌, sym, refl, ap, ◌∙◌, ⊎_elim, arith}
+use Rattle.std.proofs.Common.{◌+◌, ◌<◌, sym, refl, ap, ◌∙◌, ⊎_elim, arith}
 use Rattle.coefficients.specs.Byte.{times}
 use Rattle.coefficients.specs.Products.{times_zero, zero_times}
 use Rattle.coefficients.specs.Powers.{times_by_logs}

@@ -1,4 +1,4 @@
-use Rattle.std.proofs.Common.{◌≡◌, ℕ, ◌+◌, ◌-◌, ◌*◌, ◌<◌, ◌≢◌, List, length, get_or, take, drop, set, sym, ap, subst, arith, length-take, get_or-set_other, get_or-set_same, below_more}
+use Rattle.std.proofs.Common.{◌≡◌, ℕ, ◌+◌, ◌-◌, ◌*◌, ◌<◌, ◌≢◌, length, get_or, take, drop, set, sym, subst, arith, length-take, get_or-set_other, get_or-set_same, below_more}
 use Rattle.polynomials.specs.Rows.{row_of}
 use Rattle.polynomials.specs.Steps.{Valued}
 use Rattle.polynomials.proofs.Images.{imaged}

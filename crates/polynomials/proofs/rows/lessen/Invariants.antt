@@ -1,4 +1,3 @@
-use Rattle.std.proofs.Common.{◌≡◌, ℕ, ◌+◌, ◌<◌, ◌≤◌, length, get_or}
 use Rattle.polynomials.specs.Steps.{Lessened}
 use Rattle.polynomials.proofs.rows.lessen.Given as goal
 

@@ -1,4 +1,4 @@
-use Rattle.std.proofs.Common.{◌≡◌, ℕ, ◌+◌, Bool, true, false, cond, ltb, sym, refl, ap, ◌∙◌, arith, le-ltb, lt-ltb}
+use Rattle.std.proofs.Common.{◌≡◌, cond, ltb, sym, refl, ap, ◌∙◌, le-ltb, lt-ltb}
 use Rattle.rules.specs.Job.{State}
 use Rattle.reducer.proofs.Sounds.{held_few, held_below}
 use Rattle.reducer.proofs.Keeping.{holds_with}

@@ -1,4 +1,4 @@
-use Rattle.std.proofs.Common.{◌≡◌, Bool, true, false, ◌&&◌, ◌||◌, ltb, leb, length, take, sym, ◌∙◌, ap₂, arith, rules}
+use Rattle.std.proofs.Common.{◌≡◌, Bool, true, false, ◌&&◌, ◌||◌, ltb, leb, length, take, sym, ap₂, arith, rules}
 use borrow.Author.Tests.{lt-leb}
 use Rattle.rules.specs.Offer.{any}
 use Rattle.reducer.proofs.Places.{any_take}

@@ -3,7 +3,7 @@ use Rattle.rules.specs.Job.{settled}
 use Rattle.reducer.specs.declared.standing.Standing.{Standing}
 use Rattle.reducer.specs.declared.standing.Standing.TheVariants.{Gathering, Settled, Void}
 use Rattle.reducer.specs.State.{stage_of, state_of}
-use Rattle.reducer.proofs.Drawing.{runs_drawn, runs_settled}
+use Rattle.reducer.proofs.Drawing.{runs_drawn}
 use Rattle.reducer.proofs.running.run_job.Goals as goal
 
 -- the stage of a job that is not settled

@@ -1,5 +1,5 @@
 use Rattle.std.proofs.Common.{sym, ap, ◌∙◌}
-use Rattle.polynomials.specs.Elements.{Element, element_same, element_discrete, elements, read, polynomial}
+use Rattle.polynomials.specs.Elements.{element_same, element_discrete, elements, read}
 use Rattle.algebra.specs.Polynomial.{Poly, at}
 use Rattle.polynomials.proofs.Meaning.{code_zero}
 use Rattle.steps.proofs.look.look.Goals as goal

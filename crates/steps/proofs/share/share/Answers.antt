@@ -1,7 +1,5 @@
-use Rattle.std.proofs.Common.{refl}
 use Rattle.std.proofs.lemmas.Result.{err_from_is_err_and}
-use Rattle.steps.specs.declared.share.Shares.{Shares}
-use Rattle.steps.proofs.Sharing.{stuck_faulty, left_refused, right_refused, sharing}
+use Rattle.steps.proofs.Sharing.{stuck_faulty, left_refused, right_refused}
 use Rattle.steps.proofs.share.share.Goals as goal
 
 pub returns-in_err-gcd_row : goal.returns-in_err-gcd_row

@@ -1,12 +1,8 @@
-use Rattle.std.proofs.Common.{◌≡◌, ℕ, ◌+◌, ◌-◌, ◌≤◌, true, false, List, length, take, drop, Ok, Err, Result, sym, ap, ◌∙◌, subst, arith}
+use Rattle.std.proofs.Common.{◌≡◌, ℕ, ◌+◌, ◌-◌, ◌≤◌, true, false, List, length, take, drop, Ok, Err, ◌∙◌, subst, arith}
 use borrow.Rule.Slice.PartMut.{put_mid}
 use Rattle.std.proofs.lemmas.Result.{err_from_is_err_and}
 use Rattle.std.proofs.lemmas.Slice.{between-put_mid}
-use Rattle.polynomials.specs.Rows.{cut_row}
-use Rattle.tables.specs.declared.faults.DivisionFault.{DivisionFault}
-use Rattle.tables.specs.Content.{Even}
 use Rattle.tables.specs.Exact.{Taking}
-use Rattle.tables.proofs.Sizes.{part_row}
 use Rattle.tables.proofs.Evenly.{part_length}
 use Rattle.tables.proofs.Tops.{even_rows, cut_done, cut_no_room, cut_refused}
 use Rattle.tables.proofs.exact.cut_top.Goals as goal

@@ -1,4 +1,4 @@
-use Rattle.std.proofs.Common.{◌≡◌, suc, ◌+◌, ◌-◌, ◌*◌, ◌≤◌, length, replicate, sym, ap, ◌∙◌, mul_comm, mul-suc, mul-add, arith}
+use Rattle.std.proofs.Common.{◌≡◌, suc, ◌+◌, ◌-◌, ◌*◌, ◌≤◌, length, replicate, ◌∙◌, mul_comm, mul-suc, mul-add, arith}
 use Rattle.std.proofs.lemmas.List.{length-take-le}
 use Rattle.tables.proofs.Taken.{rows_fit, taken, not_taken}
 use Rattle.tables.proofs.exact.take_multiple.Goals as goal

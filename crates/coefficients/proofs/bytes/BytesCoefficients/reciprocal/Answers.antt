@@ -1,6 +1,6 @@
-use Rattle.std.proofs.Common.{◌≡◌, ℕ, ◌-◌, ◌<◌, sym, refl, ap, ◌∙◌, subst, arith}
+use Rattle.std.proofs.Common.{ℕ, ◌-◌, ◌<◌, sym, refl, ap, ◌∙◌, subst, arith}
 use Rattle.std.proofs.lemmas.Bool.{lt-ltb}
-use Rattle.coefficients.specs.Byte.{times, power_of}
+use Rattle.coefficients.specs.Byte.{times}
 use Rattle.coefficients.specs.Below.{guarded}
 use Rattle.coefficients.specs.Powers.{power_below}
 use Rattle.coefficients.specs.ByteLaws.{by_logs, zero_none}

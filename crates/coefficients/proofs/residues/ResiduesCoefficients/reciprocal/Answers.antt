@@ -1,4 +1,4 @@
-use Rattle.std.proofs.Common.{◌≡◌, ℕ, ◌<◌, ◌≤◌, refl, subst, arith}
+use Rattle.std.proofs.Common.{ℕ, refl, subst, arith}
 use Rattle.std.proofs.lemmas.Bool.{lt-ltb}
 use Rattle.coefficients.proofs.Euclid.{Going, going_first, going_more, found_one, found_none}
 use Rattle.coefficients.proofs.residues.ResiduesCoefficients.reciprocal.Goals as goal

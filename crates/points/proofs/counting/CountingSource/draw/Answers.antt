@@ -1,5 +1,5 @@
-use Rattle.std.proofs.Common.{◌≡◌, sym, arith}
-use Rattle.points.proofs.Lists.{listed_end, listed_drawn}
+use Rattle.std.proofs.Common.{arith}
+use Rattle.points.proofs.Lists.{listed_drawn}
 use Rattle.points.proofs.counting.CountingSource.draw.Goals as goal
 
 pub returns : goal.returns
