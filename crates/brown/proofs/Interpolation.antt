@@ -7,7 +7,8 @@ use Rattle.algebra.specs.Bounded.{Below}
 use Rattle.algebra.specs.Polynomial.{Poly, poly, poly_discrete, make, same, size, at}
 use Rattle.algebra.specs.Change.{number, at_number, linear, at_linear}
 use Rattle.algebra.specs.Field.{Field, field_domain, inv_mul}
-use Rattle.algebra.specs.Lists.{All, Distinct, Pairwise}
+use Rattle.algebra.specs.Lists.{All, Distinct}
+use Rattle.brown.specs.Joined.{Pairwise}
 use Rattle.algebra.proofs.Degrees.{size_of_zero}
 use Rattle.algebra.proofs.Roots.{roots, linear_size}
 use Rattle.algebra.proofs.OneUnknown.{evaluation}

@@ -1,6 +1,7 @@
 -- Lists whose elements have properties, two lists that go together, and a list in two parts.
 use Rattle.std.proofs.Common.{◌≡◌, ℕ, ◌+◌, ◌<◌, ◌⊎◌, List, [], ◌∷◌, length, refl, inl, inr, arith}
-use Rattle.algebra.specs.Lists.{All, Distinct, Pairwise}
+use Rattle.algebra.specs.Lists.{All, Distinct}
+use Rattle.brown.specs.Joined.{Pairwise}
 
 pub all_map : {A : Type 0} {P Q : A → Type 0} → ((a : A) → P a → Q a) → (l : List A) → All P l → All Q l
 all_map f [] h = tt

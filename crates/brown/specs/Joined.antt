@@ -1,14 +1,20 @@
 -- Images at points, what is joined from them, and the test on it.
-use Rattle.std.specs.Prelude.{◌≡◌, ℕ, ◌+◌, List, length}
+use Rattle.std.specs.Prelude.{◌≡◌, ℕ, ◌+◌, List, [], ◌∷◌, length}
 use Rattle.algebra.specs.Divisors.{Greatest}
 use Rattle.algebra.specs.Polynomial.{Poly, poly, at}
 use Rattle.algebra.specs.Change.{number}
 use Rattle.algebra.specs.Field.{Field}
 use Rattle.algebra.specs.Lead.{Monic}
 use Rattle.algebra.specs.Lists.{All, Distinct}
-pub use Rattle.algebra.specs.Lists.{Pairwise}
 use Rattle.bivariate.specs.Degrees.{K[y][x], deg, deg_y, Within}
 use Rattle.brown.specs.Prepared.{at_y, Prepared, closing_number}
+
+-- the lists are of one length, and P holds of what stands in the same place
+abbrev pub Pairwise : {A B : Type 0} → (A → B → Type 0) → List A → List B → Type 0
+Pairwise P [] [] = Unit {0}
+Pairwise P [] (b ∷ l) = ⊥
+Pairwise P (a ∷ k) [] = ⊥
+Pairwise P (a ∷ k) (b ∷ l) = P a b × Pairwise P k l
 
 module _ {E : Type 0} (F : Field E) {A B : K[y][x] F} (p : Prepared F A B) where
   open F use {ring as K, discrete as eq}

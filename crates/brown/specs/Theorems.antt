@@ -5,11 +5,11 @@ use Rattle.algebra.specs.Polynomial.{Poly, poly, size, at}
 use Rattle.algebra.specs.Change.{poly₂}
 use Rattle.algebra.specs.Field.{Field}
 use Rattle.algebra.specs.Lead.{Monic}
-use Rattle.algebra.specs.Lists.{All, Distinct, Pairwise}
+use Rattle.algebra.specs.Lists.{All, Distinct}
 use Rattle.bivariate.specs.Degrees.{K[y], K[y][x], lift, deg, deg_x, lead_x, Within}
 use Rattle.bivariate.specs.TwoUnknowns.{Content, Reduced}
 use Rattle.brown.specs.Prepared.{at_y, Prepared, closing_number, ceiling, need, unlucky_bound, Lucky}
-use Rattle.brown.specs.Joined.{Image, Sample, Joined, Passes}
+use Rattle.brown.specs.Joined.{Pairwise, Image, Sample, Joined, Passes}
 
 module _ {E : Type 0} (F : Field E) where
   open F use {ring as K, discrete as eq}

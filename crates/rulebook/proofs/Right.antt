@@ -5,7 +5,7 @@ use Rattle.std.proofs.lemmas.Bool.{eqb-true, eq-eqb, and_parts, and_from}
 use Rattle.coefficients.specs.Arithmetic.{Arithmetic, Laws, IsField}
 use Rattle.algebra.specs.Ring.{Ring}
 use Rattle.algebra.specs.Divisors.{Greatest}
-use Rattle.algebra.specs.Lists.{All, Distinct, Pairwise}
+use Rattle.algebra.specs.Lists.{All, Distinct}
 use Rattle.algebra.specs.Field.{Field}
 use Rattle.algebra.specs.Polynomial.{Poly, at}
 use Rattle.algebra.specs.Change.{Poly₂, poly₂, number}
@@ -32,7 +32,7 @@ use Rattle.values.specs.Values as Values
 use Rattle.values.specs.Values.{degree_y, quotient, content, primitive, lead_gcd, join}
 use Rattle.values.specs.Tables.{rows}
 use Rattle.values.specs.Meaning.{In, TrimmedY, TrimmedYx, polynomial₂, scalars}
-use Rattle.values.specs.Relations.{Unique, Exact, ThroughImages, GcdOfLeads, ContentOf}
+use Rattle.values.specs.Relations.{Pairwise, Unique, Exact, ThroughImages, GcdOfLeads, ContentOf}
 use Rattle.values.specs.Theorems.{RingValues, TableValues, FieldValues}
 use Rattle.values.proofs.Elements.{read_is, all_inside}
 use Rattle.values.proofs.Values.{values}

@@ -2,7 +2,7 @@
 use Rattle.std.proofs.Common.{◌≡◌, ℕ, suc, ◌≤◌, ◌⊎◌, List, [], ◌∷◌, length, sym, refl, ap, ◌∙◌, subst, ap₂, inl, inr, arith}
 use Rattle.coefficients.specs.Arithmetic.{Arithmetic, Laws, IsField}
 use Rattle.algebra.specs.Ring.{Ring, ring, mul_zero, zero_mul, add_zero, add_neg, sub_zero→eq, combine}
-use Rattle.algebra.specs.Lists.{All, Distinct, Pairwise}
+use Rattle.algebra.specs.Lists.{All, Distinct}
 use Rattle.algebra.specs.Field.{Field, field_domain}
 use Rattle.algebra.specs.Polynomial.{Poly, size, at}
 use Rattle.algebra.specs.Change.{number, at_number}
@@ -13,7 +13,7 @@ use Rattle.polynomials.specs.Relations.{Value}
 use Rattle.values.specs.Ops.{Ops, codes, lists, put, add, mul, scale, value}
 use Rattle.values.specs.Values.{root, newton, interpolate}
 use Rattle.values.specs.Meaning.{Codes, In, TrimmedY, scalars}
-use Rattle.values.specs.Relations.{Unique, ThroughValues}
+use Rattle.values.specs.Relations.{Pairwise, Unique, ThroughValues}
 use Rattle.values.proofs.Grow.{grow_at, number_small, add_size, neg_size, mul_size, at_one_is, at_add_is, at_mul_is, at_neg_is}
 use Rattle.values.proofs.Lists.{Reading, put_in, put_is, put_length, add_in, add_is, mul_in, mul_is, scale_in, scale_is, value_in, value_is, each_in, lists_codes, size_is, one_list}
 use Rattle.values.proofs.Elements.{read_is, same_element, elements_codes, inverse_in, inverse_is, reading_y}

@@ -3,7 +3,7 @@ use Rattle.std.proofs.Common.{◌≡◌, ℕ, zero, suc, ◌≤◌, List, [], �
 use mathlib.Core.Path.{fun_ext}
 use Rattle.coefficients.specs.Arithmetic.{Arithmetic, Laws, IsField}
 use Rattle.algebra.specs.Ring.{Ring}
-use Rattle.algebra.specs.Lists.{All, Distinct, Pairwise}
+use Rattle.algebra.specs.Lists.{All, Distinct}
 use Rattle.algebra.specs.Field.{Field}
 use Rattle.algebra.specs.Polynomial.{Poly, poly_discrete, same, size}
 use Rattle.algebra.specs.Change.{Poly₂, image as image-hom}
@@ -12,7 +12,7 @@ use Rattle.polynomials.specs.Elements.{Element, element_discrete, elements, read
 use Rattle.values.specs.Ops.{codes, lists}
 use Rattle.values.specs.Values.{width, interpolate, firsts, rests, join_rows, join}
 use Rattle.values.specs.Meaning.{In, TrimmedY, TrimmedYx, polynomial₂, scalars}
-use Rattle.values.specs.Relations.{Unique, ThroughImages}
+use Rattle.values.specs.Relations.{Pairwise, Unique, ThroughImages}
 use Rattle.values.proofs.Grow.{grow, grow_image, grow_zero, grow_first, grow_rest, image_at}
 use Rattle.values.proofs.Lists.{Reading, put_in, put_is, one_list}
 use Rattle.values.proofs.Elements.{elements_codes, reading_y, reading_yx}

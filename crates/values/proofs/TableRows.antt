@@ -6,7 +6,7 @@ use Rattle.algebra.specs.Ring.{Ring}
 use Rattle.algebra.specs.Divisors.{Greatest}
 use Rattle.algebra.specs.Lead as Algebra
 use Rattle.algebra.specs.Lead.{Monic, Normal}
-use Rattle.algebra.specs.Lists.{Distinct, Pairwise}
+use Rattle.algebra.specs.Lists.{Distinct}
 use Rattle.algebra.specs.Polynomial.{Poly, poly_discrete, size}
 use Rattle.algebra.specs.Change.{Poly₂, poly₂, number, image as image-hom}
 use Rattle.algebra.proofs.Degrees.{coef_scale, size_of_zero}
@@ -24,7 +24,7 @@ use Rattle.values.specs.Ops.{codes, lists, trim, lead}
 use Rattle.values.specs.Values.{times, gcd, content, primitive, over, quotient_x, lead_gcd, join}
 use Rattle.values.specs.Tables.{split, rows_of}
 use Rattle.values.specs.Meaning.{In, TrimmedY, TrimmedYx, polynomial₂, scalars}
-use Rattle.values.specs.Relations.{RowImage}
+use Rattle.values.specs.Relations.{Pairwise, RowImage}
 use Rattle.values.specs.Theorems.{Sixteen}
 use Rattle.values.proofs.Lists.{Reading, lead_in, lead_is, one_list}
 use Rattle.values.proofs.Elements.{reading_y, reading_yx, inside_all}

@@ -1,9 +1,8 @@
 -- What the computed lists have to do with one another, by the polynomials that they mean.
-use Rattle.std.specs.Prelude.{◌≡◌, ℕ, ◌≤◌, List, length}
+use Rattle.std.specs.Prelude.{◌≡◌, ℕ, ◌≤◌, List, [], ◌∷◌, length}
 use Rattle.coefficients.specs.Arithmetic.{Arithmetic, Laws, IsField}
 use Rattle.algebra.specs.Divisors.{Greatest}
 use Rattle.algebra.specs.Lead.{Monic}
-pub use Rattle.algebra.specs.Lists.{Pairwise}
 use Rattle.algebra.specs.Polynomial.{Poly, poly_discrete, size}
 use Rattle.algebra.specs.Change.{Poly₂, poly₂, number, image}
 use Rattle.bivariate.specs.Degrees.{Within, lead_x}
@@ -17,6 +16,13 @@ pub record Unique {A : Type 0} (In P : A → Type 0) (v : A) : Type 0 where
   pub inside : In v
   pub has : P v
   pub only : (w : A) → In w → P w → w ≡ v
+
+-- the lists are equally long, and P holds of what stands at one place
+abbrev pub Pairwise : {A B : Type 0} → (A → B → Type 0) → List A → List B → Type 0
+Pairwise P [] [] = Unit {0}
+Pairwise P [] (b ∷ k) = ⊥
+Pairwise P (a ∷ l) [] = ⊥
+Pairwise P (a ∷ l) (b ∷ k) = P a b × Pairwise P l k
 
 module _ {K : Arithmetic} (laws : Laws K) where
   open polynomials laws use {mul as ◌⊙◌}
