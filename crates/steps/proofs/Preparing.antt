@@ -39,7 +39,7 @@ part_is {K = K} t held d p n mx my told in_x in_y part e f x y h =
       nonzero = λ laws. (a.3 laws).nonzero;
       content_in = subst (Inside K) (sym e) a.0;
       rows_in = p_in;
-      content = λ laws only. subst (λ (l : List ℕ). Content (scalars laws only) (table laws t) (polynomial laws l) (table laws part.rows)) (sym e) (subst (λ (l : List ℕ). Content (scalars laws only) (table laws t) (polynomial laws d) (table laws l)) (sym f) (content_here laws only ((a.3 laws).content only)));
+      content = λ laws only. subst (λ (l : List ℕ). Content (scalars laws only) (table laws t) (polynomial laws l) (table laws part.rows)) (sym e) (subst (λ (l : List ℕ). Content (scalars laws only) (table laws t) (polynomial laws d) (table laws l)) (sym f) (content_here laws only _ _ _ ((a.3 laws).content only)));
       in_x = λ laws only. ap pred (ap (λ (l : List ℕ). size (polynomials laws) (table laws l)) f ∙ in_x a.1 laws) ∙ sym x;
       in_y = λ laws only. ap pred (ap (λ (l : List ℕ). width (scalars laws only) (table laws l)) f ∙ sym (width_here laws only (table laws p)) ∙ in_y a.1 laws only) ∙ sym y;
     }

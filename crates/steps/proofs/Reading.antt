@@ -307,7 +307,7 @@ module _ {K : Arithmetic} (a b : List ℕ) (w : Workings) (wk : WorkingsOf K a b
 
     module _ (laws : Laws K) (only : IsField K) (p : Prepared (scalars laws only) (table laws a) (table laws b)) where
       divisor_is : polynomial_xy laws 32 g ≡ p.G'
-      divisor_is = ((contents (scalars laws only)).unique (content_here laws only (((parted inside.divisor_in).3 laws).content only)) (answer laws only p).of_G).1
+      divisor_is = ((contents (scalars laws only)).unique (content_here laws only _ _ _ (((parted inside.divisor_in).3 laws).content only)) (answer laws only p).of_G).1
 
       lead_is : polynomial laws h ≡ lead_x (scalars laws only) p.G'
       lead_is = (led g_in).1 laws ∙ ap (lead_x (scalars laws only)) divisor_is

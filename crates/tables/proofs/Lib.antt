@@ -2,6 +2,7 @@ pub mod Sizes
 pub mod Contents
 pub mod Evenly
 pub mod Parting
+pub mod OverElements
 pub mod CutRows
 pub mod Points
 pub mod Growing

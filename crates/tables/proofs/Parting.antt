@@ -7,11 +7,10 @@ use Rattle.algebra.specs.Divisors.{Divides, Invertible}
 use Rattle.algebra.specs.Field.{field_domain}
 use Rattle.algebra.specs.Lead.{Monic}
 use Rattle.algebra.specs.Polynomial.{Poly, poly_discrete, same}
-use Rattle.algebra.specs.Change.{Poly₂, poly₂, number}
+use Rattle.algebra.specs.Change.{poly₂}
 use Rattle.algebra.proofs.Divisors.{divides_zero, divides_eq, cancel}
 use Rattle.algebra.proofs.Euclid.{size_zero}
 use Rattle.algebra.proofs.Degrees.{coef_zero, coef_scale, lead_at, poly_domain}
-use Rattle.bivariate.specs.Primitive.{Primitive}
 use Rattle.bivariate.proofs.Contents.{contents}
 use Rattle.tables.specs.declared.faults.DivisionFault.{DivisionFault}
 use Rattle.tables.specs.declared.faults.DivisionFault.TheVariants.{Reciprocal, Uneven}
@@ -93,13 +92,3 @@ module _ {K : Arithmetic} (laws : Laws K) (w : ℕ) (t held d p : List ℕ) (n :
       let (m, s, one) = content_monic laws w t d (a.2 laws) b.nonzero in
       let (i, no_way) = b.uneven (inr ((elements laws).one, sym (mul_one (elements laws) _ ∙ lead_at (elements laws) (element_discrete K) (polynomial laws d) m s ∙ one))) in
       no_way ((a.2 laws).divides i)
-
--- over a field: a content and what is left without it, with the ring of elements in sight
-module _ {K : Arithmetic} (laws : Laws K) (only : IsField K) where
-  open poly₂ (elements laws) (element_discrete K) use {mul as ◌⊠◌}
-
-  infixl 70 ◌⊠◌
-  pub over_elements : (A P : Poly₂ (elements laws) (element_discrete K)) (c : Poly (elements laws)) → ContentOver laws only A c P →
-      Monic (elements laws) c × Primitive (polynomials laws) P × (A ≡ number (polynomials laws) (poly_discrete (elements laws) (element_discrete K)) c ⊠ P)
-  unfolding field
-  over_elements A P c h = (h.monic, h.primitive, h.is)

@@ -19,7 +19,7 @@ use Rattle.tables.specs.Lead.{LeadOf, LeadGcd}
 use Rattle.tables.specs.Scale.{Times}
 use Rattle.tables.specs.Exact.{MultipleOf}
 use Rattle.tables.specs.Join.{Joined}
-use Rattle.tables.proofs.Parting.{over_elements}
+use Rattle.tables.proofs.OverElements as OverElements
 use Rattle.tables.proofs.Sizes.{row_inside, of_rows, of_past}
 use Rattle.values.specs.Ops.{codes, lists, trim, lead}
 use Rattle.values.specs.Values.{times, gcd, content, primitive, over, quotient_x, lead_gcd, join}
@@ -97,7 +97,7 @@ module _ {K : Arithmetic} (laws : Laws K) where
 
     module _ (only : IsField K) where
       as_scalars : (A P : Poly₂ R eq) (c : Poly R) → ContentOver laws only A c P → Content (scalars laws only) A c P
-      as_scalars A P c h = let u = over_elements laws only A P c h in record { monic = u.0; primitive = u.1; is = u.2 }
+      as_scalars A P c h = let u = OverElements.content_is laws only A P c h in record { monic = u.0; primitive = u.1; is = u.2 }
 
       pub content_rows : (t d p : List ℕ) → Sixteen laws w t → Inside K d → Sixteen laws w p → Parted laws w t d p → (trimmed d ≡ content K (rows_of K w t)) × (rows_of K w p ≡ primitive K (rows_of K w t))
       content_rows t d p ht hd hp u =
