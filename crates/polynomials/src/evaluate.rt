@@ -66,14 +66,12 @@ pub fn fill_powers<K: Coefficients>(kind: &K, point: u64, powers: &mut [u64])
     }
 }
 
-// The image of a table: each row by the powers of the point.
+// The image of a table, row by row.
 pub fn image_row<K: Coefficients>(kind: &K, table: &[u64], point: u64, row: &mut [u64])
     requires { (length table.now ≡ 256) × (length row.old ≡ 16) }
     ensures { Imaged (K.arithmetic kind.now) table.now point row.new }
 {
-    let mut powers = [0u64; 16];
-    fill_powers(kind, point, &mut powers);
     for i in 0..16usize {
-        row[i] = kind.dot(&table[16 * i..16 * i + 16], &powers);
+        row[i] = horner(kind, &table[16 * i..16 * i + 16], point);
     }
 }

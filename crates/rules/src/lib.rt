@@ -30,6 +30,10 @@ mod tests {
         examples_stand();
         assert_eq!(rt; Refusal::Settled { point: 0 }.number(), 14);
         assert_eq!(rt; Refusal::Modulus { modulus: 1 }.number(), 4);
+    }
+
+    #[test]
+    fn a_refusal_shows_its_numbers(rt: HostRuntime) {
         let high = Refusal::High {
             point: 7,
             degree: 3,

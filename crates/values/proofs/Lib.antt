@@ -11,4 +11,5 @@ pub mod Join
 pub mod Tables
 pub mod Rows
 pub mod TableRows
+pub mod RowValues
 pub mod Values

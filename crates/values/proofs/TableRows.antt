@@ -26,7 +26,7 @@ use Rattle.values.specs.Values.{times, gcd, content, primitive, over, quotient_x
 use Rattle.values.specs.Tables.{split, rows_of}
 use Rattle.values.specs.Meaning.{In, TrimmedY, TrimmedYx, polynomial₂, scalars}
 use Rattle.values.specs.Relations.{Pairwise, RowImage}
-use Rattle.values.specs.Theorems.{Sixteen}
+use Rattle.values.specs.RowTheorems.{Sixteen}
 use Rattle.values.proofs.Lists.{Reading, lead_in, lead_is, one_list}
 use Rattle.values.proofs.Elements.{reading_y, reading_yx, inside_all}
 use Rattle.values.proofs.Images.{times_is}

@@ -16,7 +16,7 @@ use Rattle.values.specs.Values.{width}
 use Rattle.values.specs.Tables.{Fits, split, cut, trimmed_rows, rows_of, rows, pad, spread, table_of}
 use Rattle.values.specs.Meaning.{In, TrimmedY, TrimmedYx, past_rows, polynomial₂}
 use Rattle.values.specs.Relations.{Unique}
-use Rattle.values.specs.Theorems.{Sixteen}
+use Rattle.values.specs.RowTheorems.{Sixteen}
 use Rattle.values.proofs.Grow.{grow, grow_first, grow_rest}
 use Rattle.values.proofs.Lists.{Reading, put_is, put_length, put_same, trim_in, trim_is, trim_length, each_in, unique}
 use Rattle.values.proofs.Elements.{reading_y, reading_yx, of_polynomial₂, inside_all, all_inside}

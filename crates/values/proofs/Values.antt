@@ -22,7 +22,6 @@ use Rattle.values.proofs.Interpolate as Interpolate
 use Rattle.values.proofs.Join as Join
 use Rattle.values.proofs.Tables as Tables
 use Rattle.values.proofs.Rows as Rows
-use Rattle.values.proofs.TableRows as TableRows
 
 module _ {K : Arithmetic} (laws : Laws K) where
   abbrev O : Ops ℕ
@@ -67,15 +66,11 @@ module _ {K : Arithmetic} (laws : Laws K) where
   table_values : TableValues laws
   table_values = record {
     rows_are = Tables.rows_are laws;
-    rows_of_are = Tables.rows_of_are laws;
-    rows_by_16 = Tables.rows_by_16 K;
     rows_fit = Tables.rows_fit K;
     table_in = Tables.table_in laws;
     rows_of_table = Tables.rows_of_table K;
     table_of_rows = Tables.table_of_rows K;
     table_is = Tables.table_is laws;
-    lead_rows = TableRows.lead_rows laws;
-    times_rows = TableRows.times_rows laws;
     image_row = Rows.image_row laws;
   }
 
@@ -97,11 +92,6 @@ module _ {K : Arithmetic} (laws : Laws K) where
     monic_row = Rows.monic_row laws only;
     divide_row = Rows.divide_row laws only;
     gcd_row = Rows.gcd_row laws only;
-    content_rows = λ w. TableRows.content_rows laws w only;
-    lead_gcd_rows = λ w. TableRows.lead_gcd_rows laws w only;
-    over_rows = λ w. TableRows.over_rows laws w only;
-    quotient_rows = λ w. TableRows.quotient_rows laws w only;
-    joined_rows = TableRows.joined_rows laws only;
   }
 
 pub values : (K : Arithmetic) → Values K

@@ -4,4 +4,5 @@ pub mod Tables
 pub mod Meaning
 pub mod Relations
 pub mod Theorems
+pub mod RowTheorems
 pub mod Examples

@@ -1,5 +1,5 @@
 -- What is proved of the values, for every kind of coefficient: each is trimmed, has the relation that the theory has, and is the only trimmed list that has it.
-use Rattle.std.specs.Prelude.{◌≡◌, ℕ, ◌*◌, ◌↔◌, List, [], length}
+use Rattle.std.specs.Prelude.{◌≡◌, ℕ, ◌↔◌, List, [], length}
 use Rattle.coefficients.specs.Arithmetic.{Arithmetic, Laws, IsField}
 use Rattle.algebra.specs.Divisors.{Divides}
 use Rattle.algebra.specs.Lead as Algebra
@@ -8,16 +8,11 @@ use Rattle.algebra.specs.Polynomial.{size}
 use Rattle.algebra.specs.Change.{poly₂, number}
 use Rattle.bivariate.specs.Degrees.{deg, deg_x, deg_y}
 use Rattle.polynomials.specs.Rows.{Inside, Sized}
-use Rattle.polynomials.specs.Elements.{element_discrete, elements, read, polynomial, polynomials, polynomial_xy, table}
+use Rattle.polynomials.specs.Elements.{element_discrete, elements, read, polynomial, polynomials, table}
 use Rattle.polynomials.specs.Relations.{Value, Image, Quotient, NormalOf, MonicGcd}
-use Rattle.tables.specs.Content.{Parted, Multiple as Evenly}
-use Rattle.tables.specs.Lead.{LeadOf, LeadGcd}
-use Rattle.tables.specs.Scale.{Times}
-use Rattle.tables.specs.Exact.{MultipleOf}
-use Rattle.tables.specs.Join.{Joined}
 use Rattle.values.specs.Ops.{Ops, codes, lists, trim, scale, lead, value, degree}
 use Rattle.values.specs.Values.{degree_x, degree_y, image, times, monic, divide, quotient, gcd, over, content, primitive, quotient_x, lead_gcd, interpolate, join}
-use Rattle.values.specs.Tables.{Fits, split, rows_of, rows, table_of}
+use Rattle.values.specs.Tables.{Fits, rows, table_of}
 use Rattle.values.specs.Meaning.{Codes, In, TrimmedY, TrimmedYx, polynomial₂, scalars}
 use Rattle.values.specs.Relations.{Unique, Exact, RowImage, Multiple, Factors, ThroughValues, ThroughImages, ContentOf, GcdOfLeads}
 
@@ -46,23 +41,15 @@ module _ {K : Arithmetic} (laws : Laws K) where
     pub image_is : (a : List (List ℕ)) (α : ℕ) → TrimmedYx K a → In K α → Unique (TrimmedY K) (RowImage laws a α) (image K a α)
     pub times_is : (c : List ℕ) (a : List (List ℕ)) → TrimmedY K c → TrimmedYx K a → Unique (TrimmedYx K) (λ b. Multiple laws b c a) (times K c a)
 
-  -- 16 rows of w elements
-  abbrev pub Sixteen : (w : ℕ) → List ℕ → Type 0
-  Sixteen w t = (length t ≡ 16 * w) × Inside K t
-
-  -- rows of w codes, tables of elements, and rows that fit into one
+  -- tables of elements, and rows that fit into one
   pub record TableValues : Type 0 where
     pub rows_are : (t : List ℕ) → length t ≡ 256 → Inside K t → Unique (TrimmedYx K) (λ a. polynomial₂ laws a ≡ table laws t) (rows K t)
-    pub rows_of_are : (w : ℕ) (t : List ℕ) → Sixteen w t → Unique (TrimmedYx K) (λ a. polynomial₂ laws a ≡ polynomial_xy laws w t) (rows_of K w t)
-    pub rows_by_16 : (t : List ℕ) → rows_of K 16 t ≡ rows K t
     pub rows_fit : (t : List ℕ) → Fits (rows K t)
     pub table_in : (a : List (List ℕ)) → TrimmedYx K a → (length (table_of K a) ≡ 256) × Inside K (table_of K a)
     pub rows_of_table : (a : List (List ℕ)) → TrimmedYx K a → Fits a → rows K (table_of K a) ≡ a
     pub table_of_rows : (t : List ℕ) → length t ≡ 256 → table_of K (rows K t) ≡ t
     pub table_is : (a : List (List ℕ)) → TrimmedYx K a → Fits a → table laws (table_of K a) ≡ polynomial₂ laws a
-    -- rows with the relations, which may have zeros at the end, hold the values
-    pub lead_rows : (w : ℕ) (t l : List ℕ) → Sixteen w t → Inside K l → LeadOf laws w t l → trim O l ≡ lead (lists O) (rows_of K w t)
-    pub times_rows : (w : ℕ) (t g p : List ℕ) → Sixteen w t → Inside K g → Sixteen w p → Times laws w t g p → rows_of K w p ≡ times K (trim O g) (rows_of K w t)
+    -- a row that is the image of a table holds the image of its rows
     pub image_row : (t : List ℕ) (α : ℕ) (l : List ℕ) → length t ≡ 256 → Inside K t → In K α → Inside K l → Image laws t α l → trim O l ≡ image K (rows K t) α
 
   -- over every field
@@ -86,14 +73,6 @@ module _ {K : Arithmetic} (laws : Laws K) where
     pub monic_row : (f d : List ℕ) → Inside K f → Inside K d → NormalOf laws f d → trim O d ≡ monic K (trim O f)
     pub divide_row : (f g q r : List ℕ) → Inside K f → Inside K g → Inside K q → Inside K r → Quotient laws f g q r → (trim O q, trim O r) ≡ divide K (trim O f) (trim O g)
     pub gcd_row : (a b d : List ℕ) → Inside K a → Inside K b → Inside K d → MonicGcd laws a b d → trim O d ≡ gcd K (trim O a) (trim O b)
-    -- 16 rows of each: s and t, their contents and what is left without them, and γ
-    pub content_rows : (w : ℕ) (t d p : List ℕ) → Sixteen w t → Inside K d → Sixteen w p → Parted laws w t d p → (trim O d ≡ content K (rows_of K w t)) × (rows_of K w p ≡ primitive K (rows_of K w t))
-    pub lead_gcd_rows : (w : ℕ) (s t c d a b g : List ℕ) → Sixteen w s → Sixteen w t → Inside K c → Inside K d → Sixteen w a → Sixteen w b → Inside K g → Parted laws w s c a → Parted laws w t d b → LeadGcd laws w a b g → trim O g ≡ lead_gcd K (rows_of K w s) (rows_of K w t)
-    -- exact quotients by a polynomial in y, and by rows
-    pub over_rows : (w : ℕ) (t g q : List ℕ) → Sixteen w t → Inside K g → Sixteen w q → Evenly laws w t g q → rows_of K w q ≡ over K (trim O g) (rows_of K w t)
-    pub quotient_rows : (w : ℕ) (t b q : List ℕ) → Sixteen w t → Sixteen w b → Sixteen w q → MultipleOf laws w t b q → rows_of K w q ≡ quotient_x K (rows_of K w t) (rows_of K w b)
-    -- the images vs, 16 codes at each of the points ps, joined in rows of 32 codes
-    pub joined_rows : (ps vs t : List ℕ) → Inside K ps → Distinct ps → length vs ≡ 16 * length ps → Inside K vs → Sixteen 32 t → Joined laws ps vs t → rows_of K 32 t ≡ join K ps (split K 16 (length ps) vs)
 
 -- the values over a kind
 abbrev pub Values : Arithmetic → Type 0

@@ -2,6 +2,7 @@
 #![tactic(auto)]
 
 ghost use Rattle.values.specs.Theorems.{Values};
+ghost use Rattle.values.specs.RowTheorems.{RowsHold};
 ghost use Rattle.values.specs.Examples.{Examples};
 
 use coefficients::kind::Coefficients;
@@ -9,6 +10,11 @@ use coefficients::kind::Coefficients;
 // What is computed on lists of codes is what the theory says of the polynomials that they mean, and nothing else is.
 pub fn values_stand<K: Coefficients>(kind: &K)
     ensures { Values (K.arithmetic kind.now) }
+{}
+
+// Rows of codes of any width that have the relations of `polynomials` and `tables` hold the values, up to zeros at the end.
+pub fn rows_stand<K: Coefficients>(kind: &K)
+    ensures { RowsHold (K.arithmetic kind.now) }
 {}
 
 // The definitions compute.
@@ -32,5 +38,10 @@ mod tests {
         values_stand(&Bytes::new());
         examples_stand();
         Ok(())
+    }
+
+    #[test]
+    fn rows_stand_over_bytes() {
+        rows_stand(&Bytes::new());
     }
 }
