@@ -1,4 +1,4 @@
--- Rows of any width, which may have zeros at the end: those that have a relation of `polynomials` or `tables` hold the values, for every kind.
+-- Rows of any width, which may have zeros at the end: those that have a relation of `tables` hold the values, for every kind.
 use Rattle.std.specs.Prelude.{◌≡◌, ℕ, ◌*◌, List, length}
 use Rattle.coefficients.specs.Arithmetic.{Arithmetic, Laws, IsField}
 use Rattle.algebra.specs.Lists.{Distinct}

@@ -12,7 +12,7 @@ pub fn values_stand<K: Coefficients>(kind: &K)
     ensures { Values (K.arithmetic kind.now) }
 {}
 
-// Rows of codes of any width that have the relations of `polynomials` and `tables` hold the values, up to zeros at the end.
+// 16 rows of codes of any width have one list of trimmed rows, and rows that have the relations of `tables` hold the values, up to zeros at the end.
 pub fn rows_stand<K: Coefficients>(kind: &K)
     ensures { RowsHold (K.arithmetic kind.now) }
 {}
