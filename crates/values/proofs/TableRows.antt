@@ -11,10 +11,9 @@ use Rattle.algebra.specs.Polynomial.{Poly, poly_discrete, size}
 use Rattle.algebra.specs.Change.{Poly₂, poly₂, number, image as image-hom}
 use Rattle.algebra.proofs.Degrees.{coef_scale, size_of_zero}
 use Rattle.bivariate.specs.Primitive.{Primitive}
-use Rattle.bivariate.specs.TwoUnknowns.{Content}
 use Rattle.polynomials.specs.Rows.{Inside, cut_row}
 use Rattle.polynomials.specs.Elements.{Element, element_discrete, elements, read, polynomial, polynomials, polynomial_xy}
-use Rattle.tables.specs.Content.{ContentOver, Parted, Multiple as Evenly}
+use Rattle.tables.specs.Content.{Parted, Multiple as Evenly}
 use Rattle.tables.specs.Lead.{LeadOf, LeadGcd}
 use Rattle.tables.specs.Scale.{Times}
 use Rattle.tables.specs.Exact.{MultipleOf}
@@ -24,7 +23,7 @@ use Rattle.tables.proofs.Sizes.{row_inside, of_rows, of_past}
 use Rattle.values.specs.Ops.{codes, lists, trim, lead}
 use Rattle.values.specs.Values.{times, gcd, content, primitive, over, quotient_x, lead_gcd, join}
 use Rattle.values.specs.Tables.{split, rows_of}
-use Rattle.values.specs.Meaning.{In, TrimmedY, TrimmedYx, polynomial₂, scalars}
+use Rattle.values.specs.Meaning.{In, TrimmedY, TrimmedYx, polynomial₂}
 use Rattle.values.specs.Relations.{Pairwise, RowImage}
 use Rattle.values.specs.RowTheorems.{Sixteen}
 use Rattle.values.proofs.Lists.{Reading, lead_in, lead_is, one_list}
@@ -96,17 +95,14 @@ module _ {K : Arithmetic} (laws : Laws K) where
         (rows_is p hp ∙ e ∙ sym (ap₂ (λ c P. lift c ⊠ P) (t_is laws g hg) (rows_is t ht)))
 
     module _ (only : IsField K) where
-      as_scalars : (A P : Poly₂ R eq) (c : Poly R) → ContentOver laws only A c P → Content (scalars laws only) A c P
-      as_scalars A P c h = let u = OverElements.content_is laws only A P c h in record { monic = u.0; primitive = u.1; is = u.2 }
-
       pub content_rows : (t d p : List ℕ) → Sixteen laws w t → Inside K d → Sixteen laws w p → Parted laws w t d p → (trimmed d ≡ content K (rows_of K w t)) × (rows_of K w p ≡ primitive K (rows_of K w t))
       content_rows t d p ht hd hp u =
-          let c = as_scalars _ _ _ (u.content only) in
+          let (monic, whole, is) = OverElements.content_is laws only _ _ _ (u.content only) in
           let same = (content_is laws only (rows_of K w t) (rows_in t ht) (some_rows t ht u.nonzero)).only (trimmed d, rows_of K w p) (t_in laws d hd, rows_in p hp)
           (record {
-            monic = subst (Monic R) (sym (t_is laws d hd)) c.monic;
-            primitive = subst (Primitive (polynomials laws)) (sym (rows_is p hp)) c.primitive;
-            is = rows_is t ht ∙ c.is ∙ sym (ap₂ (λ c P. lift c ⊠ P) (t_is laws d hd) (rows_is p hp));
+            monic = subst (Monic R) (sym (t_is laws d hd)) monic;
+            primitive = subst (Primitive (polynomials laws)) (sym (rows_is p hp)) whole;
+            is = rows_is t ht ∙ is ∙ sym (ap₂ (λ c P. lift c ⊠ P) (t_is laws d hd) (rows_is p hp));
           }) in
           (ap (λ (z : List ℕ × List (List ℕ)). z.0) same, ap (λ (z : List ℕ × List (List ℕ)). z.1) same)
 
