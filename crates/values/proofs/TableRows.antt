@@ -97,11 +97,11 @@ module _ {K : Arithmetic} (laws : Laws K) where
     module _ (only : IsField K) where
       pub content_rows : (t d p : List ℕ) → Sixteen laws w t → Inside K d → Sixteen laws w p → Parted laws w t d p → (trimmed d ≡ content K (rows_of K w t)) × (rows_of K w p ≡ primitive K (rows_of K w t))
       content_rows t d p ht hd hp u =
-          let (monic, whole, is) = OverElements.content_is laws only _ _ _ (u.content only) in
+          let (monic, is_primitive, is) = OverElements.content_is laws only _ _ _ (u.content only) in
           let same = (content_is laws only (rows_of K w t) (rows_in t ht) (some_rows t ht u.nonzero)).only (trimmed d, rows_of K w p) (t_in laws d hd, rows_in p hp)
           (record {
             monic = subst (Monic R) (sym (t_is laws d hd)) monic;
-            primitive = subst (Primitive (polynomials laws)) (sym (rows_is p hp)) whole;
+            primitive = subst (Primitive (polynomials laws)) (sym (rows_is p hp)) is_primitive;
             is = rows_is t ht ∙ is ∙ sym (ap₂ (λ c P. lift c ⊠ P) (t_is laws d hd) (rows_is p hp));
           }) in
           (ap (λ (z : List ℕ × List (List ℕ)). z.0) same, ap (λ (z : List ℕ × List (List ℕ)). z.1) same)
