@@ -1,11 +1,10 @@
 -- The numbers by which refusals are known, and the numbers that each names.
-use Rattle.std.specs.Prelude.{◌≡◌, ℕ, List, [], ◌∷◌, length, take}
+use Rattle.std.specs.Prelude.{ℕ, List, [], ◌∷◌}
 use Rattle.rules.specs.declared.counts.Counts.{Counts}
 use Rattle.rules.specs.declared.refusal.Table.{Table}
 use Rattle.rules.specs.declared.refusal.Table.TheVariants.{A, B, Divisor, CofactorA, CofactorB}
 use Rattle.rules.specs.declared.refusal.Stage.{Stage}
 use Rattle.rules.specs.declared.refusal.Stage.TheVariants.{Alone, Opening, Offer}
-use Rattle.rules.specs.declared.refusal.Fields.{Fields}
 use Rattle.rules.specs.declared.refusal.Refusal.{Refusal}
 use Rattle.rules.specs.declared.refusal.Refusal.TheVariants.{Length, ForeignCode, ForeignPoint, Zero, Modulus, NoField, Repeated, Vanishing, High, Settled, Full, Spent, Empty, Short}
 
@@ -63,7 +62,3 @@ fields (Full counts) = count_list counts
 fields (Spent counts) = count_list counts
 fields (Empty counts) = count_list counts
 fields (Short counts) = count_list counts
-
--- `shown` has these numbers, and no others
-abbrev pub Shows : List ℕ → Fields → Type 0
-Shows named shown = (shown.count ≡ length named) × (take shown.count shown.numbers ≡ named)

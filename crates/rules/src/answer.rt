@@ -2,7 +2,7 @@
 use crate::refusal::Refusal;
 
 // The answer to an accepted offer: the degree of the image, and how many points this offer added to dropped.
-#[derive(Clone, Copy)]
+#[derive(Clone, Copy, Debug, PartialEq, Eq)]
 pub enum Answer {
     // The job is settled.
     Settled { degree: u64, dropped: u64 },
@@ -15,7 +15,7 @@ pub enum Answer {
 }
 
 // What a run answers: how many points it drew, and whether it settled the job or why it stopped.
-#[derive(Clone, Copy)]
+#[derive(Clone, Copy, Debug, PartialEq, Eq)]
 pub struct Ran {
     pub drawn: u64,
     pub ending: Result<(), Refusal>,

@@ -1,13 +1,14 @@
 // Why a call is refused.
-ghost use Rattle.std.specs.Prelude.{◌≡◌, [], ◌∷◌};
-ghost use Rattle.rules.specs.Numbers.{number, table_number, stage_number, count_list, fields, Shows};
+ghost use Rattle.std.specs.Prelude.{◌≡◌, ◌≤◌, length};
+ghost use Rattle.rules.specs.Numbers.{number, table_number, stage_number, fields};
 
 use crate::counts::Counts;
+use arrayvec::ArrayVec;
 
 // The tables of a job: the two that come in, their greatest common divisor and the two cofactors.
-#[derive(Clone, Copy)]
+#[derive(Clone, Copy, Debug, PartialEq, Eq)]
 pub enum Table {
-    A,
+    A = 1,
     B,
     Divisor,
     CofactorA,
@@ -15,14 +16,14 @@ pub enum Table {
 }
 
 // Where a reciprocal was wanted: by a call for it alone, in an opening, in an offer.
-#[derive(Clone, Copy)]
+#[derive(Clone, Copy, Debug, PartialEq, Eq)]
 pub enum Stage {
     Alone,
     Opening,
     Offer,
 }
 
-#[derive(Clone, Copy)]
+#[derive(Clone, Copy, Debug, PartialEq, Eq)]
 pub enum Refusal {
     // A table that does not have 256 codes.
     Length {
@@ -79,78 +80,37 @@ pub enum Refusal {
     Short(Counts),
 }
 
-// The numbers that a refusal names: the first `count` of `numbers`.
-#[derive(Clone, Copy)]
-pub struct Fields {
-    pub numbers: [u64; 8],
-    pub count: usize,
-}
+// The numbers that a refusal names.
+pub type Fields = ArrayVec<u64, 8>;
 
-fn table_number(table: Table) -> u64
-    ensures { result ≡ table_number table }
-{
-    match table {
-        Table::A => 1,
-        Table::B => 2,
-        Table::Divisor => 3,
-        Table::CofactorA => 4,
-        Table::CofactorB => 5,
+// The number of a table.
+impl From<Table> for u64 {
+    ghost from_gives = { λ table n. n ≡ table_number table };
+
+    fn from(table: Table) -> u64 {
+        table as u64
     }
 }
 
-fn stage_number(stage: Stage) -> u64
-    ensures { result ≡ stage_number stage }
-{
-    match stage {
-        Stage::Alone => 0,
-        Stage::Opening => 1,
-        Stage::Offer => 2,
+// The number of a stage.
+impl From<Stage> for u64 {
+    ghost from_gives = { λ stage n. n ≡ stage_number stage };
+
+    fn from(stage: Stage) -> u64 {
+        stage as u64
     }
 }
 
-fn one(a: u64) -> Fields
-    ensures { Shows (a ∷ []) result }
+// These numbers, and no others.
+fn naming(numbers: &[u64]) -> Fields
+    requires { length numbers.now ≤ 8 }
+    ensures { result.items ≡ numbers.now }
 {
-    Fields {
-        numbers: [a, 0, 0, 0, 0, 0, 0, 0],
-        count: 1,
+    let mut named = ArrayVec::new();
+    for n in numbers {
+        named.push(*n);
     }
-}
-
-fn two(a: u64, b: u64) -> Fields
-    ensures { Shows (a ∷ b ∷ []) result }
-{
-    Fields {
-        numbers: [a, b, 0, 0, 0, 0, 0, 0],
-        count: 2,
-    }
-}
-
-fn three(a: u64, b: u64, c: u64) -> Fields
-    ensures { Shows (a ∷ b ∷ c ∷ []) result }
-{
-    Fields {
-        numbers: [a, b, c, 0, 0, 0, 0, 0],
-        count: 3,
-    }
-}
-
-fn all_counts(counts: Counts) -> Fields
-    ensures { Shows (count_list counts) result }
-{
-    Fields {
-        numbers: [
-            counts.offered,
-            counts.foreign,
-            counts.repeated,
-            counts.vanishing,
-            counts.high,
-            counts.late,
-            counts.dropped,
-            counts.held,
-        ],
-        count: 8,
-    }
+    named
 }
 
 impl Refusal {
@@ -160,8 +120,7 @@ impl Refusal {
     {
         match self {
             Refusal::Length { .. } => 1,
-            Refusal::ForeignCode { .. } => 2,
-            Refusal::ForeignPoint { .. } => 2,
+            Refusal::ForeignCode { .. } | Refusal::ForeignPoint { .. } => 2,
             Refusal::Zero { .. } => 3,
             Refusal::Modulus { .. } => 4,
             Refusal::NoField { .. } => 5,
@@ -178,28 +137,25 @@ impl Refusal {
 
     // What this refusal names, in the order in which it is shown.
     pub fn fields(&self) -> Fields
-        ensures { Shows (fields self.now) result }
+        ensures { result.items ≡ fields self.now }
     {
         match *self {
-            Refusal::Length { table, length } => two(table_number(table), length as u64),
+            Refusal::Length { table, length } => naming(&[table.into(), length as u64]),
             Refusal::ForeignCode { table, place, code } => {
-                three(table_number(table), place as u64, code)
+                naming(&[table.into(), place as u64, code])
             }
-            Refusal::ForeignPoint { point } => three(0, 0, point),
-            Refusal::Zero { table } => one(table_number(table)),
-            Refusal::Modulus { .. } => Fields {
-                numbers: [0; 8],
-                count: 0,
-            },
-            Refusal::NoField { element, stage } => two(element, stage_number(stage)),
-            Refusal::Repeated { point } => one(point),
-            Refusal::Vanishing { point } => one(point),
-            Refusal::High { point, degree } => two(point, degree),
-            Refusal::Settled { point } => one(point),
-            Refusal::Full(counts) => all_counts(counts),
-            Refusal::Spent(counts) => all_counts(counts),
-            Refusal::Empty(counts) => all_counts(counts),
-            Refusal::Short(counts) => all_counts(counts),
+            Refusal::ForeignPoint { point } => naming(&[0, 0, point]),
+            Refusal::Zero { table } => naming(&[table.into()]),
+            Refusal::Modulus { .. } => naming(&[]),
+            Refusal::NoField { element, stage } => naming(&[element, stage.into()]),
+            Refusal::Repeated { point }
+            | Refusal::Vanishing { point }
+            | Refusal::Settled { point } => naming(&[point]),
+            Refusal::High { point, degree } => naming(&[point, degree]),
+            Refusal::Full(counts)
+            | Refusal::Spent(counts)
+            | Refusal::Empty(counts)
+            | Refusal::Short(counts) => naming(&<[u64; 8]>::from(counts)),
         }
     }
 }
