@@ -8,21 +8,21 @@ ghost use Rattle.coefficients.specs.Dot.{dot_of};
 use rules::refusal::{Refusal, Stage};
 
 // Why a code has no reciprocal: it is no element, or an element that lacks one.
-#[derive(Clone, Copy)]
+#[derive(Clone, Copy, Debug, PartialEq, Eq)]
 pub enum ReciprocalFault {
     Foreign(u64),
     NoReciprocal(u64),
 }
 
-impl ReciprocalFault {
-    // The refusal that a call for a reciprocal by itself answers.
-    pub fn refusal(&self) -> Refusal
-        ensures { result ≡ reciprocal_refusal self.now }
-    {
-        match self {
-            ReciprocalFault::Foreign(code) => Refusal::ForeignPoint { point: *code },
+// The refusal that a call for a reciprocal by itself answers.
+impl From<ReciprocalFault> for Refusal {
+    ghost from_gives = { λ e r. r ≡ reciprocal_refusal e };
+
+    fn from(e: ReciprocalFault) -> Refusal {
+        match e {
+            ReciprocalFault::Foreign(code) => Refusal::ForeignPoint { point: code },
             ReciprocalFault::NoReciprocal(code) => Refusal::NoField {
-                element: *code,
+                element: code,
                 stage: Stage::Alone,
             },
         }
