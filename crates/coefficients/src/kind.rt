@@ -34,13 +34,9 @@ pub trait Coefficients {
     // The largest code that the kind ever uses.
     const LARGEST: u64;
 
+    ghost LARGEST: { ℕ };
+
     ghost arithmetic: { Self → Arithmetic };
-
-    ghost largest: { ℕ };
-
-    // LARGEST, in the form that generic contracts can cite.
-    fn largest_code() -> u64
-        ensures { result ≡ largest };
 
     // Whether a code is an element's.
     fn contains(&self, code: u64) -> bool
@@ -83,5 +79,5 @@ pub trait Coefficients {
 
     ghost laws: { (k : Self) → Laws (arithmetic k) };
 
-    ghost small: { (k : Self) (c : ℕ) → (arithmetic k).element c ≡ true → c ≤ largest };
+    ghost small: { (k : Self) (c : ℕ) → (arithmetic k).element c ≡ true → c ≤ LARGEST };
 }
