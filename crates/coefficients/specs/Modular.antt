@@ -3,8 +3,10 @@ use Rattle.std.specs.Prelude.{◌≡◌, ℕ, ◌+◌, ◌-◌, ◌*◌, ◌/◌
 use Rattle.std.proofs.Common.{sym, ap, ◌∙◌, ⊎_elim, mod-lt, mod-eq_of_lt, add-mul, mul-add, mul_assoc, mul_comm, add_comm, add_assoc, arith}
 use Rattle.std.proofs.Math.Nat.{mod-add-mod, add-mod-mod, add-mod, add-mod_right, mod-eq-sub-mod, div-add-mod, mul-add-mod_self_left}
 use Rattle.std.proofs.lemmas.Bool.{cases_lt}
+use Rattle.coefficients.specs.Arithmetic.{Laws}
 use Rattle.coefficients.specs.Below.{BelowLaws}
-use Rattle.coefficients.specs.Residue.{sum, difference, product}
+use Rattle.coefficients.specs.BelowLemmas.{below_laws}
+use Rattle.coefficients.specs.Residue.{sum, difference, product, modulo}
 
 -- a factor may be reduced first
 pub mod_mul_left : (p a b : ℕ) → (a % p * b) % p ≡ (a * b) % p
@@ -56,3 +58,6 @@ residues p low =
       product_one = λ a h. let e : 1 * a ≡ a = omega arith in ap (λ n. n % p) e ∙ mod-eq_of_lt h;
       distributes = λ a b c h k l. mod_mul_right p a (b + c) ∙ ap (λ n. n % p) (mul-add a b c) ∙ add-mod (a * b) (a * c) p;
     }
+
+pub modulo_laws : (p : ℕ) → 2 ≤ p → Laws (modulo p)
+modulo_laws p low = below_laws p (sum p) (difference p) (product p) (residues p low)

@@ -1,9 +1,9 @@
 // The field of 256 elements: a byte is a polynomial over the field of two elements, modulo x^8 + x^4 + x^3 + x + 1.
-ghost use Rattle.std.specs.Prelude.{◌≡◌, ◌<◌, bit_xor};
+ghost use Rattle.std.specs.Prelude.{◌≡◌, ◌<◌};
 ghost use Rattle.coefficients.specs.Arithmetic.{IsField};
 ghost use Rattle.coefficients.specs.Byte.{bytes, times, power_of};
-ghost use Rattle.coefficients.specs.BelowLemmas.{below_laws, codes_to_largest, own_places};
-ghost use Rattle.coefficients.specs.ByteLaws.{byte_laws};
+ghost use Rattle.coefficients.specs.BelowLemmas.{codes_to_largest, own_places};
+ghost use Rattle.coefficients.specs.ByteLaws.{bytes_laws};
 ghost use Rattle.std.proofs.Common.{lit≤};
 
 use crate::kind::{Coefficients, ReciprocalFault};
@@ -114,7 +114,7 @@ impl Coefficients for Bytes {
 
     ghost arithmetic = { λ k. bytes };
 
-    ghost laws = { λ k. below_laws 256 bit_xor bit_xor (times 8) byte_laws };
+    ghost laws = { λ k. bytes_laws };
 
     ghost small = { λ k. codes_to_largest 256 255 (lit≤ tt) };
 

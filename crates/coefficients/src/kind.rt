@@ -64,17 +64,10 @@ pub trait Coefficients {
     fn dot(&self, xs: &[u64], ys: &[u64]) -> u64
         ensures { result ≡ dot_of (arithmetic self.now) xs.now ys.now }
     {
-        let mut total = self.zero();
-        let mut i = if xs.len() < ys.len() {
-            xs.len()
-        } else {
-            ys.len()
-        };
-        while i > 0 {
-            i -= 1;
-            total = self.add(self.mul(xs[i], ys[i]), total);
-        }
-        total
+        xs.iter().zip(ys).fold(
+            self.zero(),
+            |total, (x, y)| self.add(self.mul(*x, *y), total),
+        )
     }
 
     ghost laws: { (k : Self) → Laws (arithmetic k) };

@@ -1,11 +1,11 @@
 // The residues modulo a number.
-ghost use Rattle.std.specs.Prelude.{◌≡◌, ◌*◌, ◌%◌, ◌<◌, ◌≤◌, ◌↔◌, IfOk, MatchResult};
+ghost use Rattle.std.specs.Prelude.{◌≡◌, ◌*◌, ◌%◌, ◌<◌, ◌≤◌, ◌↔◌, IsOk, IfOk, IfErr};
 ghost use Rattle.coefficients.specs.Arithmetic.{IsField};
 ghost use Rattle.coefficients.specs.Prime.{Prime};
-ghost use Rattle.coefficients.specs.Residue.{modulo, sum, difference, product};
+ghost use Rattle.coefficients.specs.Residue.{modulo};
 ghost use Rattle.coefficients.specs.declared.modulus.ModulusFault.TheVariants.{OutOfRange};
-ghost use Rattle.coefficients.specs.BelowLemmas.{below_laws, codes_to_largest, own_places};
-ghost use Rattle.coefficients.specs.Modular.{residues};
+ghost use Rattle.coefficients.specs.BelowLemmas.{codes_to_largest, own_places};
+ghost use Rattle.coefficients.specs.Modular.{modulo_laws};
 
 use crate::kind::{Coefficients, ReciprocalFault};
 use crate::listed::Listed;
@@ -21,10 +21,12 @@ pub struct Residues {
 impl Residues {
     // The residues modulo a number from 2 to 2147483647. They are a field exactly when it is prime; that is not tested.
     pub fn new(modulus: u64) -> Result<Residues, ModulusFault>
-        ensures made { MatchResult result (λ k. (k.modulus ≡ modulus) × (2 ≤ modulus) × (modulus ≤ 2147483647)) (λ e. (e ≡ OutOfRange modulus) × (2 ≤ modulus → modulus ≤ 2147483647 → ⊥)) }
+        ensures range { IsOk result ↔ ((2 ≤ modulus) × (modulus ≤ 2147483647)) }
+        ensures taken { IfOk result (λ k. k.modulus ≡ modulus) }
+        ensures refused { IfErr result (λ e. e ≡ OutOfRange modulus) }
         ensures field { IfOk result (λ k. Prime modulus ↔ IsField (modulo modulus)) }
     {
-        if modulus < 2 || modulus > 2147483647 {
+        if !(2..=2147483647).contains(&modulus) {
             return Err(ModulusFault::OutOfRange(modulus));
         }
         Ok(Residues { modulus })
@@ -66,7 +68,7 @@ impl Coefficients for Residues {
 
     ghost arithmetic = { λ k. modulo k.modulus };
 
-    ghost laws = { λ k. below_laws k.modulus (sum k.modulus) (difference k.modulus) (product k.modulus) (residues k.modulus k.low) };
+    ghost laws = { λ k. modulo_laws k.modulus k.low };
 
     ghost small = { λ k. codes_to_largest k.modulus 2147483646 k.high };
 
@@ -129,18 +131,11 @@ impl Coefficients for Residues {
 
     // With one division, at the end.
     fn dot(&self, xs: &[u64], ys: &[u64]) -> u64 {
-        let modulus = self.modulus;
         let mut total = 0;
-        let mut i = if xs.len() < ys.len() {
-            xs.len()
-        } else {
-            ys.len()
-        };
-        while i > 0 {
-            i -= 1;
-            total = gather(modulus, total, xs[i], ys[i]);
+        for (x, y) in xs.iter().zip(ys) {
+            total = gather(self.modulus, total, *x, *y);
         }
-        total % modulus
+        total % self.modulus
     }
 }
 
