@@ -1,5 +1,5 @@
 -- Sums of products, gathered from the front.
-use Rattle.std.proofs.Common.{◌≡◌, ℕ, true, ◌⊎◌, List, [], ◌∷◌, fold, refl, sym, ap, ◌∙◌, inl, inr, ⊎_elim}
+use Rattle.std.proofs.Common.{◌≡◌, ℕ, true, ◌⊎◌, List, [], ◌∷◌, fold, refl, sym, ap, ◌∙◌, inl, inr}
 use Rattle.std.specs.List.{zip}
 use Rattle.coefficients.specs.Arithmetic.{Arithmetic, Laws}
 use Rattle.coefficients.specs.Dot.{dot_of}

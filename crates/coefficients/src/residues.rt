@@ -50,12 +50,7 @@ fn gather(modulus: u64, total: u64, x: u64, y: u64) -> u64
     ensures same { result % modulus ≡ (modulo modulus).sum ((modulo modulus).product x y) (total % modulus) }
 {
     if x < modulus && y < modulus {
-        let more = total + x * y;
-        if more < modulus * modulus {
-            more
-        } else {
-            more - modulus * modulus
-        }
+        reduced(total + x * y, modulus * modulus)
     } else {
         total
     }
