@@ -13,7 +13,7 @@ pub struct Counting<K> {
 
 impl<K: Listed> Counting<K> {
     pub fn new(kind: K) -> Counting<K>
-        ensures waiting { counting_from (K.Listed.nth result.kind) (K.Listed.count result.kind) result.next ≡ counting_from (K.Listed.nth kind) (K.Listed.count kind) 0 }
+        ensures waiting { ⟦<Counting<K> as Source>⟧.waiting result ≡ counting_from (K.Listed.nth kind) (K.Listed.count kind) 0 }
         ensures places { InPlaces (K.Listed.nth kind) (K.Listed.count kind) (counting_from (K.Listed.nth kind) (K.Listed.count kind) 0) }
     {
         Counting { kind, next: 0 }
