@@ -1,26 +1,13 @@
--- The lists that wait, one code after the other.
-use Rattle.std.proofs.Common.{◌≡◌, ℕ, zero, suc, ◌+◌, ◌-◌, ◌<◌, ◌≤◌, ltb, List, [], ◌∷◌, length, get_or, drop, Some, None, Option, sym, refl, ap, ◌∙◌, ⊎_elim, arith}
-use Rattle.std.proofs.lemmas.List.{drop_more, drop_all}
-use Rattle.std.proofs.lemmas.Bool.{cases_lt, lt-ltb, le-ltb, cond-true}
-use Rattle.coefficients.specs.Listing.{when}
+-- The elements that wait in a counting source.
+use Rattle.std.proofs.Common.{◌≡◌, ℕ, zero, suc, ◌+◌, ◌-◌, ◌<◌, ltb, ◌∷◌, length, get_or, Some, Option, sym, refl, ap, ◌∙◌, subst, arith}
+use Rattle.std.proofs.lemmas.Bool.{lt-ltb, le-ltb}
 use Rattle.points.specs.Waiting.{Drawn, InPlaces, some_left, listed, counting_from}
 
--- one place less is left after the first
-listed_step : (nth : ℕ → ℕ) (i n : ℕ) → i < n → listed nth i (n - i) ≡ nth i ∷ listed nth (i + 1) (n - (i + 1))
-listed_step nth i n h = let e : n - i ≡ suc (n - (i + 1)) = omega arith in ap (listed nth i) e
-
-pub listed_end : (nth : ℕ → ℕ) (i n : ℕ) → n ≤ i → listed nth i (n - i) ≡ []
-listed_end nth i n h = let e : n - i ≡ 0 = omega arith in ap (listed nth i) e
-
-pub listed_drawn : (nth : ℕ → ℕ) (i n : ℕ) → i < n → (r : Option ℕ) → r ≡ when (ltb i n) (nth i) → Drawn (listed nth i (n - i)) (listed nth (i + 1) (n - (i + 1))) r
-listed_drawn nth i n h (Some x) e =
-    let at : Some x ≡ Some (nth i) = e ∙ cond-true (ltb i n) (Some (nth i)) None (lt-ltb i n h) in
-    let same : x ≡ nth i = cc in
-    listed_step nth i n h ∙ ap (λ y. y ∷ listed nth (i + 1) (n - (i + 1))) (sym same)
-listed_drawn nth i n h None e =
-    let at : None ≡ Some (nth i) = e ∙ cond-true (ltb i n) (Some (nth i)) None (lt-ltb i n h) in
-    let z : ◌≡◌ {A = ℕ} 0 1 = cc in
-    absurd (omega arith)
+-- the first is drawn, and one place less is left
+pub counted_drawn : (nth : ℕ → ℕ) (i n j m : ℕ) (r : Option ℕ) → i < n → j ≡ i + 1 → m ≡ n → r ≡ Some (nth i) → Drawn (counting_from nth n i) (counting_from nth m j) r
+counted_drawn nth i n j m r h next same e =
+    let d : n - i ≡ suc (m - j) = omega arith in
+    subst (Drawn (counting_from nth n i) (counting_from nth m j)) (sym e) (ap (listed nth i) d ∙ ap (λ k. nth i ∷ listed nth k (m - j)) (sym next))
 
 listed_length : (nth : ℕ → ℕ) (from n : ℕ) → length (listed nth from n) ≡ n
 listed_length nth from zero = refl
@@ -43,9 +30,5 @@ left_by : (nth : ℕ → ℕ) (i n d : ℕ) → n - i ≡ d → ltb i n ≡ some
 left_by nth i n zero e = le-ltb i n (omega arith)
 left_by nth i n (suc d) e = lt-ltb i n (omega arith)
 
-pub listed_left : (nth : ℕ → ℕ) (i n : ℕ) → ltb i n ≡ some_left (listed nth i (n - i))
-listed_left nth i n = left_by nth i n (n - i) refl
-
-pub drop_left : (i : ℕ) (xs : List ℕ) → ltb i (length xs) ≡ some_left (drop i xs)
-drop_left i xs =
-    ⊎_elim (λ h. lt-ltb i (length xs) h ∙ sym (ap some_left (drop_more xs i 0 h))) (λ h. le-ltb i (length xs) h ∙ sym (ap some_left (drop_all i xs h))) (cases_lt i (length xs))
+pub counted_left : (nth : ℕ → ℕ) (i n : ℕ) → ltb i n ≡ some_left (counting_from nth n i)
+counted_left nth i n = left_by nth i n (n - i) refl
