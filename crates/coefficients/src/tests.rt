@@ -44,8 +44,9 @@ fn reciprocals_are_given_or_refused(rt: HostRuntime) -> Result<(), Fail> {
 
 // The number of the refusal of a modulus that is not taken.
 fn refusal(modulus: u64) -> Option<u64> {
-    let e = Residues::new(modulus).err()?;
-    Some(Refusal::from(e).number())
+    Residues::new(modulus)
+        .err()
+        .map(|e| Refusal::from(e).number())
 }
 
 #[test]
