@@ -1,5 +1,6 @@
 -- The lists of codes that wait in sources.
-use Rattle.std.specs.Prelude.{◌≡◌, ℕ, zero, suc, ◌+◌, ◌-◌, ◌<◌, Bool, true, false, cond, ◌&&◌, List, [], ◌∷◌, ◌++◌, map, length, drop, Some, None, Option, slice_index}
+use Rattle.std.specs.Prelude.{◌≡◌, ℕ, ◌-◌, ◌<◌, Bool, true, false, cond, ◌&&◌, List, [], ◌∷◌, ◌++◌, map, length, drop, Some, None, Option, slice_index}
+use Rattle.std.specs.List.{range_with_len}
 use Rattle.coefficients.specs.Arithmetic.{Arithmetic}
 
 -- a draw takes the first code of the list; it gives nothing where the list is empty, and leaves it so
@@ -16,14 +17,9 @@ some_left (x ∷ xs) = true
 abbrev pub supplied_from : List ℕ → (next : ℕ) → List ℕ
 supplied_from codes next = drop next codes
 
--- the elements in the `n` places from `from` on
-abbrev pub listed : (ℕ → ℕ) → (from n : ℕ) → List ℕ
-listed nth from zero = []
-listed nth from (suc n) = nth from ∷ listed nth (from + 1) n
-
--- what waits in a counting source from the place `next` on
+-- what waits in a counting source from the place `next` on: the elements in the places from there to the last
 abbrev pub counting_from : (nth : ℕ → ℕ) (count next : ℕ) → List ℕ
-counting_from nth count next = listed nth next (count - next)
+counting_from nth count next = map nth (range_with_len next (count - next))
 
 -- the n-th element stands in place n, and there are no others
 pub record InPlaces (nth : ℕ → ℕ) (count : ℕ) (waiting : List ℕ) : Type 0 where

@@ -11,7 +11,7 @@ pub struct Chain<A, B> {
 
 impl<A: Source, B: Source> Chain<A, B> {
     pub fn new(first: A, second: B) -> Chain<A, B>
-        ensures { A.Source.waiting result.first ++ B.Source.waiting result.second ≡ A.Source.waiting first ++ B.Source.waiting second }
+        ensures { ⟦<Chain<A, B> as Source>⟧.waiting result ≡ A.Source.waiting first ++ B.Source.waiting second }
     {
         Chain { first, second }
     }
@@ -21,6 +21,7 @@ impl<A: Source, B: Source> Source for Chain<A, B> {
     ghost waiting = { λ s. A.Source.waiting s.first ++ B.Source.waiting s.second };
 
     fn draw(&mut self) -> Option<u64> {
+        // Not `or_else`: its contract does not say that a closure which is not called leaves the second source as it was.
         match self.first.draw() {
             Some(code) => Some(code),
             None => self.second.draw(),

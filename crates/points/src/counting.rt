@@ -1,38 +1,38 @@
 // All elements of a listed kind, in their order.
-ghost use Rattle.std.specs.Prelude.{◌≡◌};
+ghost use Rattle.std.specs.Prelude.{◌≡◌, ◌≤◌};
 ghost use Rattle.points.specs.Waiting.{counting_from, InPlaces};
 
 use crate::source::Source;
 use coefficients::listed::Listed;
+use std::ops::Range;
 
+// The places that are left.
 #[derive(Drop)]
-pub struct Counting<K> {
+pub struct Counting<K: Listed> {
     kind: K,
-    next: u64,
+    places: Range<u64>,
+    ghost within: { places.end ≤ K.Listed.count kind },
 }
 
 impl<K: Listed> Counting<K> {
     pub fn new(kind: K) -> Counting<K>
-        ensures waiting { counting_from (K.Listed.nth result.kind) (K.Listed.count result.kind) result.next ≡ counting_from (K.Listed.nth kind) (K.Listed.count kind) 0 }
-        ensures places { InPlaces (K.Listed.nth kind) (K.Listed.count kind) (counting_from (K.Listed.nth kind) (K.Listed.count kind) 0) }
+        ensures waiting { ⟦<Counting<K> as Source>⟧.waiting result ≡ counting_from (K.Listed.nth kind) (K.Listed.count kind) 0 }
+        ensures places { InPlaces (K.Listed.nth kind) (K.Listed.count kind) (⟦<Counting<K> as Source>⟧.waiting result) }
     {
-        Counting { kind, next: 0 }
+        let places = 0..kind.count();
+        Counting { kind, places }
     }
 }
 
 impl<K: Listed> Source for Counting<K> {
-    ghost waiting = { λ s. counting_from (K.Listed.nth s.kind) (K.Listed.count s.kind) s.next };
+    ghost waiting = { λ s. counting_from (K.Listed.nth s.kind) s.places.end s.places.start };
 
     fn draw(&mut self) -> Option<u64> {
-        if self.next >= self.kind.count() {
-            return None;
-        }
-        let element = self.kind.nth(self.next);
-        self.next += 1;
-        element
+        let place = self.places.next()?;
+        self.kind.nth(place)
     }
 
     fn any_waiting(&self) -> bool {
-        self.next < self.kind.count()
+        !self.places.is_empty()
     }
 }

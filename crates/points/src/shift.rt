@@ -15,7 +15,7 @@ pub struct Shift<K, S> {
 impl<K: Coefficients, S: Source> Shift<K, S> {
     // Where `by` is no element nothing is shifted.
     pub fn new(kind: K, by: u64, below: S) -> Shift<K, S>
-        ensures { map (shifted (K.Coefficients.arithmetic result.kind) result.by) (S.Source.waiting result.below) ≡ map (shifted (K.Coefficients.arithmetic kind) by) (S.Source.waiting below) }
+        ensures { ⟦<Shift<K, S> as Source>⟧.waiting result ≡ map (shifted (K.Coefficients.arithmetic kind) by) (S.Source.waiting below) }
     {
         Shift { kind, by, below }
     }
@@ -36,10 +36,8 @@ impl<K: Coefficients, S: Source> Source for Shift<K, S> {
     ghost waiting = { λ s. map (shifted (K.Coefficients.arithmetic s.kind) s.by) (S.Source.waiting s.below) };
 
     fn draw(&mut self) -> Option<u64> {
-        match self.below.draw() {
-            Some(code) => Some(shift_point(&self.kind, self.by, code)),
-            None => None,
-        }
+        let code = self.below.draw()?;
+        Some(shift_point(&self.kind, self.by, code))
     }
 
     fn any_waiting(&self) -> bool {

@@ -1,6 +1,5 @@
-use Rattle.std.proofs.Common.{refl}
 use Rattle.points.proofs.Lists.{in_places}
 use Rattle.points.proofs.counting.Counting.new.Goals as goal
 
-pub returns : goal.returns
-returns g c = record { waiting = refl; places = in_places _ _ }
+pub returns-clause-places : goal.returns-clause-places
+returns-clause-places g c = rw c.count.ensures (in_places _ _)

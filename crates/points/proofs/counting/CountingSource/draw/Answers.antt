@@ -1,8 +1,10 @@
-use Rattle.std.proofs.Common.{arith}
-use Rattle.points.proofs.Lists.{listed_drawn}
+use Rattle.std.proofs.Common.{◌≡◌, Some, arith, rules}
+use Rattle.points.proofs.Lists.{counted_drawn}
 use Rattle.points.proofs.counting.CountingSource.draw.Goals as goal
 
 pub returns : goal.returns
 returns g c =
     let s = c.args.self.now in
-    listed_drawn (g.K.Listed.nth s.kind) s.next (g.K.Listed.count s.kind) (omega arith) c.nth-element.result c.nth-element.ensures
+    let steps = c.in_ok-place.ensures.steps in
+    let drawn : c.nth.result ≡ Some (g.K.Listed.nth s.kind s.places.start) = search rules in
+    counted_drawn _ _ _ _ _ _ (omega arith) steps.1.2 steps.0 drawn
