@@ -1,5 +1,5 @@
 -- A product of rows, one term of the first after the other.
-use Rattle.std.proofs.Common.{◌≡◌, ℕ, ◌+◌, ◌-◌, ◌<◌, ◌≤◌, true, cond, ◌≢◌, ◌⊎◌, List, [], ◌∷◌, length, get_or, take, sym, ap, ◌∙◌, ap₂, inl, inr, zero-le, arith, length-take, get_or-take}
+use Rattle.std.proofs.Common.{◌≡◌, ℕ, ◌+◌, ◌-◌, ◌<◌, ◌≤◌, true, cond, ◌≢◌, ◌⊎◌, List, [], ◌∷◌, length, get_or, take, Ok, sym, ap, ◌∙◌, ap₂, inl, inr, zero-le, arith, length-take, get_or-take}
 use mathlib.Core.Path.{fun_ext}
 use Rattle.std.proofs.lemmas.List.{get_or_default}
 use Rattle.std.proofs.lemmas.Bool.{cases_lt, cases_eq, cond-true}
@@ -144,10 +144,10 @@ multiplying_more K laws a b p p' i n negative lt len fits bs e L m = record {
   is = λ lw ha hb. added lw p p' a b i n negative ha hb m.inside lt len fits bs e L (m.is lw ha hb);
 }
 
-pub multiplied : (K : Arithmetic) (a b p : List ℕ) (n : ℕ) → Sized K a n → Multiplying K a b p n → Multiplied K a b p p true
+pub multiplied : (K : Arithmetic) (a b p : List ℕ) (n : ℕ) → Sized K a n → Multiplying K a b p n → Multiplied K a b p p (Ok tt)
 multiplied K a b p n s m ha hb = (m.inside, λ lw. m.is lw ha hb ∙ ap (λ q. (polynomials lw).mul q (polynomial lw b)) (take_all lw a n ha s))
 
 -- a product with zero
-pub multiplied_zero : (K : Arithmetic) → Laws K → (a b p : List ℕ) → Sized K b 0 → ((i : ℕ) → i < length p → get_or p i 0 ≡ K.zero) → Multiplied K a b p p true
+pub multiplied_zero : (K : Arithmetic) → Laws K → (a b p : List ℕ) → Sized K b 0 → ((i : ℕ) → i < length p → get_or p i 0 ≡ K.zero) → Multiplied K a b p p (Ok tt)
 multiplied_zero K laws a b p s z ha hb =
     (λ i lt. ap K.element (z i lt) ∙ laws.zero_in, λ lw. cleared lw p z ∙ sym (ap ((polynomials lw).mul (polynomial lw a)) (cleared lw b (λ i lt. s.zeros i zero-le lt)) ∙ mul_zero (polynomials lw) _))
