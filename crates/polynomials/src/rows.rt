@@ -10,16 +10,14 @@ use coefficients::kind::Coefficients;
 pub fn check_codes<K: Coefficients>(kind: &K, codes: &[u64], row: u64) -> Result<(), RowFault>
     ensures { MatchResult result (λ _. Inside (K.arithmetic kind.now) codes.now) (λ e. ForeignRow (K.arithmetic kind.now) codes.now row e) }
 {
-    for (place, code) in codes.iter().enumerate() {
-        if !kind.contains(*code) {
-            return Err(RowFault::Foreign {
-                row,
-                place,
-                code: *code,
-            });
-        }
+    match codes.iter().position(|code| !kind.contains(*code)) {
+        Some(place) => Err(RowFault::Foreign {
+            row,
+            place,
+            code: codes[place],
+        }),
+        None => Ok(()),
     }
-    Ok(())
 }
 
 // The size of a row: one more than the place of the last code that is not zero, or 0.
