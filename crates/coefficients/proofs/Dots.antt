@@ -1,30 +1,46 @@
--- `dot_of` from the back of two lists.
-use Rattle.std.proofs.Common.{◌≡◌, ℕ, suc, ◌-◌, ◌<◌, ◌≤◌, ◌⊎◌, List, [], ◌∷◌, length, get_or, drop, refl, ap, ◌∙◌, ap₂, ⊎_elim, arith, drop-cons}
-use lib.Seq.{drop-length}
-use Rattle.coefficients.specs.Arithmetic.{Arithmetic}
+-- Sums of products, gathered from the front.
+use Rattle.std.proofs.Common.{◌≡◌, ℕ, true, ◌⊎◌, List, [], ◌∷◌, fold, refl, sym, ap, ◌∙◌, inl, inr}
+use Rattle.std.specs.List.{zip}
+use Rattle.coefficients.specs.Arithmetic.{Arithmetic, Laws}
 use Rattle.coefficients.specs.Dot.{dot_of}
 
-module _ (K : Arithmetic) where
-  none_right : (xs : List ℕ) → dot_of K xs [] ≡ K.zero
+-- one product more
+abbrev pub one_more : Arithmetic → ℕ → ℕ × ℕ → ℕ
+one_more K total p = K.sum (K.product p.0 p.1) total
+
+module _ (K : Arithmetic) (laws : Laws K) where
+  dot_in : (xs ys : List ℕ) → K.element (dot_of K xs ys) ≡ true
   unfolding dot_of
-  none_right [] = refl
-  none_right (x ∷ xs) = refl
+  dot_in [] ys = laws.zero_in
+  dot_in (x ∷ xs) [] = laws.zero_in
+  dot_in (x ∷ xs) (y ∷ ys) = laws.sum_in _ _
 
-  none_left : (ys : List ℕ) → dot_of K [] ys ≡ K.zero
-  unfolding dot_of
-  none_left ys = refl
+  pub dot_start : (xs ys : List ℕ) → K.sum K.zero (dot_of K xs ys) ≡ dot_of K xs ys
+  dot_start xs ys = laws.sum_zero _ (dot_in xs ys)
 
-  module _ (xs ys : List ℕ) where
-    -- past the end of one of them
-    pub dot_none : (i : ℕ) → (i ≡ length xs) ⊎ (i ≡ length ys) → dot_of K (drop i xs) (drop i ys) ≡ K.zero
-    dot_none i =
-        ⊎_elim (λ e. ap (λ zs. dot_of K zs (drop i ys)) (ap (λ n. drop n xs) e ∙ drop-length xs) ∙ none_left (drop i ys))
-        (λ e. ap (dot_of K (drop i xs)) (ap (λ n. drop n ys) e ∙ drop-length ys) ∙ none_right (drop i xs))
-
-    pub dot_more : (i : ℕ) → 0 < i → i ≤ length xs → i ≤ length ys → dot_of K (drop (i - 1) xs) (drop (i - 1) ys) ≡ K.sum (K.product (get_or xs (i - 1) 0) (get_or ys (i - 1) 0)) (dot_of K (drop i xs) (drop i ys))
+  module _ (total : ℕ) (inside : K.element total ≡ true) where
+    pub dot_more : (x y : ℕ) (xs ys : List ℕ) → K.sum total (dot_of K (x ∷ xs) (y ∷ ys)) ≡ K.sum (one_more K total (x, y)) (dot_of K xs ys)
     unfolding dot_of
-    dot_more i h k l =
-        let s : suc (i - 1) ≡ i = omega arith in
-        let x : drop (i - 1) xs ≡ get_or xs (i - 1) 0 ∷ drop i xs = drop-cons xs (i - 1) 0 (omega arith) ∙ ap (λ n. get_or xs (i - 1) 0 ∷ drop n xs) s in
-        let y : drop (i - 1) ys ≡ get_or ys (i - 1) 0 ∷ drop i ys = drop-cons ys (i - 1) 0 (omega arith) ∙ ap (λ n. get_or ys (i - 1) 0 ∷ drop n ys) s in
-        ap₂ (dot_of K) x y
+    dot_more x y xs ys =
+        sym (laws.sum_assoc total (K.product x y) (dot_of K xs ys) inside (laws.product_in x y) (dot_in xs ys))
+        ∙ ap (λ n. K.sum n (dot_of K xs ys)) (laws.sum_comm total (K.product x y))
+
+    at_zero : K.sum total K.zero ≡ total
+    at_zero = laws.sum_comm total K.zero ∙ laws.sum_zero total inside
+
+    -- past the end of one of the two
+    pub dot_none : (xs ys : List ℕ) → (xs ≡ []) ⊎ (ys ≡ []) → K.sum total (dot_of K xs ys) ≡ total
+    unfolding dot_of
+    dot_none [] ys e = at_zero
+    dot_none (x ∷ xs) [] e = at_zero
+    dot_none (x ∷ xs) (y ∷ ys) (inl e) = cc
+    dot_none (x ∷ xs) (y ∷ ys) (inr e) = cc
+
+  dot_from : (xs ys : List ℕ) (total : ℕ) → K.element total ≡ true → fold (one_more K) total (zip xs ys) ≡ K.sum total (dot_of K xs ys)
+  dot_from [] ys total inside = sym (dot_none total inside [] ys (inl refl))
+  dot_from (x ∷ xs) [] total inside = sym (dot_none total inside (x ∷ xs) [] (inr refl))
+  dot_from (x ∷ xs) (y ∷ ys) total inside =
+      dot_from xs ys (one_more K total (x, y)) (laws.sum_in _ _) ∙ sym (dot_more total inside x y xs ys)
+
+  pub dot_by_fold : (xs ys : List ℕ) → fold (one_more K) K.zero (zip xs ys) ≡ dot_of K xs ys
+  dot_by_fold xs ys = dot_from xs ys K.zero laws.zero_in ∙ dot_start xs ys

@@ -6,7 +6,7 @@ use Rattle.std.proofs.lemmas.Bool.{cases_eq}
 use Rattle.coefficients.specs.Below.{guarded}
 use Rattle.coefficients.specs.Residue.{product}
 use Rattle.coefficients.specs.BelowLemmas.{guarded_at, guarded_some}
-use Rattle.coefficients.specs.Modular.{mod_mul_left, mod_mul_right}
+use Rattle.std.proofs.lemmas.Nat.{mul-mod_first, mul-mod_second}
 
 -- what holds as each turn begins: r0 and r1 are s0 and s1 times a, and share their divisors with p and a
 pub record Going (p a r0 r1 s0 s1 : ℕ) : Type 0 where
@@ -59,7 +59,7 @@ module _ (p a : ℕ) (low : 2 ≤ p) (ha : a < p) where
 
     -- the quotient times r1, with s1 * a for r1
     multiple : ((r0 / r1) * r1) % p ≡ ((r0 / r1) * (s1 * a)) % p
-    multiple = sym (mod_mul_right p (r0 / r1) r1) ∙ ap (λ n. ((r0 / r1) * n) % p) (sym go.second) ∙ mod_mul_right p (r0 / r1) (s1 * a)
+    multiple = sym (mul-mod_second (r0 / r1) r1 p) ∙ ap (λ n. ((r0 / r1) * n) % p) (sym go.second) ∙ mul-mod_second (r0 / r1) (s1 * a) p
 
     third : ((((s0 + p) - ((r0 / r1) * s1) % p) % p) * a) % p ≡ (r0 % r1) % p
     third =
@@ -71,9 +71,9 @@ module _ (p a : ℕ) (low : 2 ≤ p) (ha : a < p) where
         ∙ ap (λ n. (s * a + n) % p) multiple
         ∙ add-mod-mod (s * a) (q * (s1 * a)) p
         ∙ ap (λ n. n % p) grouped
-        ∙ sym (mod_mul_left p (s + q * s1) a)
+        ∙ sym (mul-mod_first (s + q * s1) a p)
         ∙ ap (λ n. (n * a) % p) returned
-        ∙ mod_mul_left p s0 a
+        ∙ mul-mod_first s0 a p
         ∙ go.first
         ∙ ap (λ n. n % p) (sym (mod-add-div' r0 r1)))
 

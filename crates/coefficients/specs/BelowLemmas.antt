@@ -1,9 +1,23 @@
 -- The laws of a kind whose elements are the codes below some number, from what its operations owe at elements.
-use Rattle.std.specs.Prelude.{◌≡◌, ℕ, zero, suc, ◌<◌, Bool, true, false, ◌&&◌, ltb, nat_eq, nat_lt}
+use Rattle.std.specs.Prelude.{◌≡◌, ℕ, zero, suc, ◌+◌, ◌<◌, ◌≤◌, Bool, true, false, ◌&&◌, ltb, nat_eq, nat_lt, refl}
 use Rattle.std.proofs.Common.{sym, ap, ap₂, ◌∙◌, ⊎_elim, arith}
 use Rattle.std.proofs.lemmas.Bool.{cond-true, cond-false, cond_both, both_ways, and_from, and_left, and_right, and_parts, and_cases, lt-ltb, ltb-true, eq-eqb, eqb-true}
 use Rattle.coefficients.specs.Arithmetic.{Arithmetic, Laws}
 use Rattle.coefficients.specs.Below.{guarded, last_below, inverse_below, below, BelowLaws}
+use Rattle.coefficients.specs.Listing.{Listing}
+
+-- where there are at most largest + 1 codes, none is above the largest
+pub codes_to_largest : (count largest : ℕ) → count ≤ largest + 1 → (c : ℕ) → nat_lt c count ≡ true → c ≤ largest
+codes_to_largest count largest h c inside = let l : c < count = ltb-true c count inside in omega arith
+
+-- each code below `count` stands in its own place
+pub own_places : (count : ℕ) → Listing (λ c. nat_lt c count) count (λ n. n) (λ c. c)
+own_places count = record {
+  nth_in = λ n h. lt-ltb n count h;
+  place_below = λ c e. ltb-true c count e;
+  place_nth = λ n h. refl;
+  nth_place = λ c e. refl;
+}
 
 module _ (count : ℕ) (f : ℕ → ℕ → ℕ) (a b : ℕ) where
   pub guarded_at : a < count → b < count → guarded count f a b ≡ f a b

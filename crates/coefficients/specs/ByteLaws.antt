@@ -4,10 +4,10 @@ use Rattle.std.proofs.Common.{sym, ap, ◌∙◌, arith}
 use Rattle.std.proofs.lemmas.Nat.{xor_comm, xor_lt}
 use Rattle.std.specs.Int.Bits.{xor_assoc, xor_self, xor_zero_r}
 use Rattle.std.proofs.lemmas.Bool.{ltb-true, lt-ltb}
-use Rattle.coefficients.specs.Arithmetic.{IsField}
+use Rattle.coefficients.specs.Arithmetic.{Laws, IsField}
 use Rattle.coefficients.specs.Below.{BelowLaws, guarded}
 use Rattle.coefficients.specs.Byte.{bytes, x_times, times, power_of}
-use Rattle.coefficients.specs.BelowLemmas.{guarded_at, guarded_some}
+use Rattle.coefficients.specs.BelowLemmas.{guarded_at, guarded_some, below_laws}
 use Rattle.coefficients.specs.Products.{times_below, times_comm, times_assoc, times_one, times_right, zero_times}
 use Rattle.coefficients.specs.Tables.{powers_from, logs_from, log_at}
 use Rattle.coefficients.specs.Powers.{power_below, reciprocal_by_log}
@@ -31,6 +31,9 @@ byte_laws = record {
   product_one = times_one;
   distributes = λ a b c h k l. times_right 8 a b c;
 }
+
+pub bytes_laws : Laws bytes
+bytes_laws = below_laws 256 bit_xor bit_xor (times 8) byte_laws
 
 -- a power of x + 1 and the power that makes 255 of it
 pub by_logs : (a i : ℕ) → a < 256 → i < 255 → power_of i ≡ a → guarded 256 (times 8) a (power_of (255 - i)) ≡ 1

@@ -1,19 +1,13 @@
 -- The residues modulo p owe what a kind of the codes below p owes.
-use Rattle.std.specs.Prelude.{◌≡◌, ℕ, ◌+◌, ◌-◌, ◌*◌, ◌/◌, ◌%◌, ◌<◌, ◌≤◌}
-use Rattle.std.proofs.Common.{sym, ap, ◌∙◌, ⊎_elim, mod-lt, mod-eq_of_lt, add-mul, mul-add, mul_assoc, mul_comm, add_comm, add_assoc, arith}
-use Rattle.std.proofs.Math.Nat.{mod-add-mod, add-mod-mod, add-mod, add-mod_right, mod-eq-sub-mod, div-add-mod, mul-add-mod_self_left}
+use Rattle.std.specs.Prelude.{◌≡◌, ℕ, ◌+◌, ◌-◌, ◌*◌, ◌%◌, ◌<◌, ◌≤◌}
+use Rattle.std.proofs.Common.{sym, ap, ◌∙◌, ⊎_elim, mod-lt, mod-eq_of_lt, mul-add, mul_assoc, mul_comm, add_comm, add_assoc, arith}
+use Rattle.std.proofs.Math.Nat.{mod-add-mod, add-mod-mod, add-mod, add-mod_right, mod-eq-sub-mod}
 use Rattle.std.proofs.lemmas.Bool.{cases_lt}
+use Rattle.std.proofs.lemmas.Nat.{mul-mod_first, mul-mod_second}
+use Rattle.coefficients.specs.Arithmetic.{Laws}
 use Rattle.coefficients.specs.Below.{BelowLaws}
-use Rattle.coefficients.specs.Residue.{sum, difference, product}
-
--- a factor may be reduced first
-pub mod_mul_left : (p a b : ℕ) → (a % p * b) % p ≡ (a * b) % p
-mod_mul_left p a b =
-    let whole : a * b ≡ p * (a / p * b) + a % p * b = ap (λ n. n * b) (sym (div-add-mod a p)) ∙ add-mul (p * (a / p)) (a % p) b ∙ ap (λ n. n + a % p * b) (mul_assoc p (a / p) b) in
-    sym (ap (λ n. n % p) whole ∙ mul-add-mod_self_left p (a / p * b) (a % p * b))
-
-pub mod_mul_right : (p a b : ℕ) → (a * (b % p)) % p ≡ (a * b) % p
-mod_mul_right p a b = ap (λ n. n % p) (mul_comm a (b % p)) ∙ mod_mul_left p b a ∙ ap (λ n. n % p) (mul_comm b a)
+use Rattle.coefficients.specs.BelowLemmas.{below_laws}
+use Rattle.coefficients.specs.Residue.{sum, difference, product, modulo}
 
 -- a number below twice p, reduced by one subtraction
 pub mod_once : (p n : ℕ) → p ≤ n → n - p < p → n % p ≡ n - p
@@ -52,7 +46,10 @@ residues p low =
       sum_less = λ a b h k. difference_of_sum p a b h k;
       less_sum = λ a b h k. sum_of_difference p a b h k;
       product_comm = λ a b h k. ap (λ n. n % p) (mul_comm a b);
-      product_assoc = λ a b c h k l. mod_mul_left p (a * b) c ∙ ap (λ n. n % p) (mul_assoc a b c) ∙ sym (mod_mul_right p a (b * c));
+      product_assoc = λ a b c h k l. mul-mod_first (a * b) c p ∙ ap (λ n. n % p) (mul_assoc a b c) ∙ sym (mul-mod_second a (b * c) p);
       product_one = λ a h. let e : 1 * a ≡ a = omega arith in ap (λ n. n % p) e ∙ mod-eq_of_lt h;
-      distributes = λ a b c h k l. mod_mul_right p a (b + c) ∙ ap (λ n. n % p) (mul-add a b c) ∙ add-mod (a * b) (a * c) p;
+      distributes = λ a b c h k l. mul-mod_second a (b + c) p ∙ ap (λ n. n % p) (mul-add a b c) ∙ add-mod (a * b) (a * c) p;
     }
+
+pub modulo_laws : (p : ℕ) → 2 ≤ p → Laws (modulo p)
+modulo_laws p low = below_laws p (sum p) (difference p) (product p) (residues p low)

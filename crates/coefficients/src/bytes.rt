@@ -1,11 +1,10 @@
 // The field of 256 elements: a byte is a polynomial over the field of two elements, modulo x^8 + x^4 + x^3 + x + 1.
-ghost use Rattle.std.specs.Prelude.{◌≡◌, ◌<◌, bit_xor};
+ghost use Rattle.std.specs.Prelude.{◌≡◌, ◌<◌};
 ghost use Rattle.coefficients.specs.Arithmetic.{IsField};
 ghost use Rattle.coefficients.specs.Byte.{bytes, times, power_of};
-ghost use Rattle.coefficients.specs.BelowLemmas.{below_laws};
-ghost use Rattle.coefficients.specs.ByteLaws.{byte_laws};
-ghost use Rattle.std.proofs.Common.{arith, rules};
-ghost use Rattle.std.proofs.lemmas.Bool.{ltb-true};
+ghost use Rattle.coefficients.specs.BelowLemmas.{codes_to_largest, own_places};
+ghost use Rattle.coefficients.specs.ByteLaws.{bytes_laws};
+ghost use Rattle.std.proofs.Common.{lit≤};
 
 use crate::kind::{Coefficients, ReciprocalFault};
 use crate::listed::Listed;
@@ -85,7 +84,8 @@ fn log(a: u64) -> u64
 
 // The product of two bytes, by their logarithms.
 fn multiply(a: u64, b: u64) -> u64
-    requires { (a < 256) × (b < 256) }
+    requires a_below { a < 256 }
+    requires b_below { b < 256 }
     ensures { result ≡ times 8 a b }
 {
     if a == 0 || b == 0 {
@@ -110,17 +110,13 @@ impl Bytes {
 impl Coefficients for Bytes {
     const LARGEST: u64 = 255;
 
+    ghost LARGEST = { 255 };
+
     ghost arithmetic = { λ k. bytes };
 
-    ghost largest = { 255 };
+    ghost laws = { λ k. bytes_laws };
 
-    ghost laws = { λ k. below_laws 256 bit_xor bit_xor (times 8) byte_laws };
-
-    ghost small = { λ k c h. let l : c < 256 = ltb-true c 256 h in omega arith };
-
-    fn largest_code() -> u64 {
-        Self::LARGEST
-    }
+    ghost small = { λ k. codes_to_largest 256 255 (lit≤ tt) };
 
     fn contains(&self, code: u64) -> bool {
         code < 256
@@ -170,17 +166,17 @@ impl Listed for Bytes {
 
     ghost place = { λ k c. c };
 
-    ghost listing = { Prim.search rules };
+    ghost listing = { λ k. own_places 256 };
 
     fn count(&self) -> u64 {
         256
     }
 
     fn nth(&self, n: u64) -> Option<u64> {
-        if n < 256 { Some(n) } else { None }
+        (n < 256).then_some(n)
     }
 
     fn place(&self, code: u64) -> Option<u64> {
-        if code < 256 { Some(code) } else { None }
+        (code < 256).then_some(code)
     }
 }

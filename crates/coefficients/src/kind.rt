@@ -8,21 +8,21 @@ ghost use Rattle.coefficients.specs.Dot.{dot_of};
 use rules::refusal::{Refusal, Stage};
 
 // Why a code has no reciprocal: it is no element, or an element that lacks one.
-#[derive(Clone, Copy)]
+#[derive(Clone, Copy, Debug, PartialEq, Eq)]
 pub enum ReciprocalFault {
     Foreign(u64),
     NoReciprocal(u64),
 }
 
-impl ReciprocalFault {
-    // The refusal that a call for a reciprocal by itself answers.
-    pub fn refusal(&self) -> Refusal
-        ensures { result ≡ reciprocal_refusal self.now }
-    {
-        match self {
-            ReciprocalFault::Foreign(code) => Refusal::ForeignPoint { point: *code },
+// The refusal that a call for a reciprocal by itself answers.
+impl From<ReciprocalFault> for Refusal {
+    ghost from_gives = { λ e r. r ≡ reciprocal_refusal e };
+
+    fn from(e: ReciprocalFault) -> Refusal {
+        match e {
+            ReciprocalFault::Foreign(code) => Refusal::ForeignPoint { point: code },
             ReciprocalFault::NoReciprocal(code) => Refusal::NoField {
-                element: *code,
+                element: code,
                 stage: Stage::Alone,
             },
         }
@@ -34,13 +34,9 @@ pub trait Coefficients {
     // The largest code that the kind ever uses.
     const LARGEST: u64;
 
+    ghost LARGEST: { ℕ };
+
     ghost arithmetic: { Self → Arithmetic };
-
-    ghost largest: { ℕ };
-
-    // LARGEST, in the form that generic contracts can cite.
-    fn largest_code() -> u64
-        ensures { result ≡ largest };
 
     // Whether a code is an element's.
     fn contains(&self, code: u64) -> bool
@@ -68,20 +64,13 @@ pub trait Coefficients {
     fn dot(&self, xs: &[u64], ys: &[u64]) -> u64
         ensures { result ≡ dot_of (arithmetic self.now) xs.now ys.now }
     {
-        let mut total = self.zero();
-        let mut i = if xs.len() < ys.len() {
-            xs.len()
-        } else {
-            ys.len()
-        };
-        while i > 0 {
-            i -= 1;
-            total = self.add(self.mul(xs[i], ys[i]), total);
-        }
-        total
+        xs.iter().zip(ys).fold(
+            self.zero(),
+            |total, (x, y)| self.add(self.mul(*x, *y), total),
+        )
     }
 
     ghost laws: { (k : Self) → Laws (arithmetic k) };
 
-    ghost small: { (k : Self) (c : ℕ) → (arithmetic k).element c ≡ true → c ≤ largest };
+    ghost small: { (k : Self) (c : ℕ) → (arithmetic k).element c ≡ true → c ≤ LARGEST };
 }

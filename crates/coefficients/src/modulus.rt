@@ -4,19 +4,18 @@ ghost use Rattle.coefficients.specs.Refusals.{modulus_refusal};
 
 use rules::refusal::Refusal;
 
-#[derive(Clone, Copy)]
+#[derive(Clone, Copy, Debug, PartialEq, Eq)]
 pub enum ModulusFault {
     // The modulus is below 2 or above 2147483647.
     OutOfRange(u64),
 }
 
-impl ModulusFault {
-    // The refusal of the rules that this is.
-    pub fn refusal(&self) -> Refusal
-        ensures { result ≡ modulus_refusal self.now }
-    {
-        match self {
-            ModulusFault::OutOfRange(modulus) => Refusal::Modulus { modulus: *modulus },
+impl From<ModulusFault> for Refusal {
+    ghost from_gives = { λ e r. r ≡ modulus_refusal e };
+
+    fn from(e: ModulusFault) -> Refusal {
+        match e {
+            ModulusFault::OutOfRange(modulus) => Refusal::Modulus { modulus },
         }
     }
 }

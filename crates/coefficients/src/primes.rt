@@ -1,18 +1,22 @@
 // Moduli that are proved to be prime, so that their residues are a field.
 ghost use Rattle.std.specs.Prelude.{◌≡◌};
-ghost use Rattle.coefficients.specs.Prime.{Prime};
+ghost use Rattle.coefficients.specs.Prime.{Prime, known_modulus};
 
-// The modulus of the program's example.
-pub fn eleven() -> u64
-    ensures value { result ≡ 11 }
-    ensures prime { Prime result }
-{
-    11
+#[derive(Clone, Copy, Debug, PartialEq, Eq)]
+pub enum KnownPrime {
+    // The modulus of the program's example.
+    Eleven,
+    LargestModulus,
 }
 
-pub fn largest_modulus() -> u64
-    ensures value { result ≡ 2147483647 }
-    ensures prime { Prime result }
-{
-    2147483647
+impl KnownPrime {
+    pub fn modulus(self) -> u64
+        ensures value { result ≡ known_modulus self }
+        ensures prime { Prime result }
+    {
+        match self {
+            KnownPrime::Eleven => 11,
+            KnownPrime::LargestModulus => 2147483647,
+        }
+    }
 }

@@ -1,13 +1,11 @@
 // The residues modulo a number.
-ghost use Rattle.std.specs.Prelude.{◌≡◌, ◌*◌, ◌%◌, ◌<◌, ◌≤◌, ◌↔◌, IfOk, MatchResult};
+ghost use Rattle.std.specs.Prelude.{◌≡◌, ◌*◌, ◌%◌, ◌<◌, ◌≤◌, ◌↔◌, IsOk, IfOk, IfErr};
 ghost use Rattle.coefficients.specs.Arithmetic.{IsField};
 ghost use Rattle.coefficients.specs.Prime.{Prime};
-ghost use Rattle.coefficients.specs.Residue.{modulo, sum, difference, product};
+ghost use Rattle.coefficients.specs.Residue.{modulo};
 ghost use Rattle.coefficients.specs.declared.modulus.ModulusFault.TheVariants.{OutOfRange};
-ghost use Rattle.coefficients.specs.BelowLemmas.{below_laws};
-ghost use Rattle.coefficients.specs.Modular.{residues};
-ghost use Rattle.std.proofs.Common.{arith, rules};
-ghost use Rattle.std.proofs.lemmas.Bool.{ltb-true};
+ghost use Rattle.coefficients.specs.BelowLemmas.{codes_to_largest, own_places};
+ghost use Rattle.coefficients.specs.Modular.{modulo_laws};
 
 use crate::kind::{Coefficients, ReciprocalFault};
 use crate::listed::Listed;
@@ -23,10 +21,12 @@ pub struct Residues {
 impl Residues {
     // The residues modulo a number from 2 to 2147483647. They are a field exactly when it is prime; that is not tested.
     pub fn new(modulus: u64) -> Result<Residues, ModulusFault>
-        ensures made { MatchResult result (λ k. (k.modulus ≡ modulus) × (2 ≤ modulus) × (modulus ≤ 2147483647)) (λ e. (e ≡ OutOfRange modulus) × (2 ≤ modulus → modulus ≤ 2147483647 → ⊥)) }
+        ensures range { IsOk result ↔ ((2 ≤ modulus) × (modulus ≤ 2147483647)) }
+        ensures taken { IfOk result (λ k. k.modulus ≡ modulus) }
+        ensures refused { IfErr result (λ e. e ≡ OutOfRange modulus) }
         ensures field { IfOk result (λ k. Prime modulus ↔ IsField (modulo modulus)) }
     {
-        if modulus < 2 || modulus > 2147483647 {
+        if !(2..=2147483647).contains(&modulus) {
             return Err(ModulusFault::OutOfRange(modulus));
         }
         Ok(Residues { modulus })
@@ -43,17 +43,14 @@ fn reduced(n: u64, modulus: u64) -> u64
 
 // One more product, where the sum of products is kept below the square of the modulus and not reduced.
 fn gather(modulus: u64, total: u64, x: u64, y: u64) -> u64
-    requires { (2 ≤ modulus) × ((modulus ≤ 2147483647) × (total < modulus * modulus)) }
+    requires low { 2 ≤ modulus }
+    requires high { modulus ≤ 2147483647 }
+    requires kept { total < modulus * modulus }
     ensures below { result < modulus * modulus }
     ensures same { result % modulus ≡ (modulo modulus).sum ((modulo modulus).product x y) (total % modulus) }
 {
     if x < modulus && y < modulus {
-        let more = total + x * y;
-        if more < modulus * modulus {
-            more
-        } else {
-            more - modulus * modulus
-        }
+        reduced(total + x * y, modulus * modulus)
     } else {
         total
     }
@@ -62,17 +59,13 @@ fn gather(modulus: u64, total: u64, x: u64, y: u64) -> u64
 impl Coefficients for Residues {
     const LARGEST: u64 = 2147483646;
 
+    ghost LARGEST = { 2147483646 };
+
     ghost arithmetic = { λ k. modulo k.modulus };
 
-    ghost largest = { 2147483646 };
+    ghost laws = { λ k. modulo_laws k.modulus k.low };
 
-    ghost laws = { λ k. below_laws k.modulus (sum k.modulus) (difference k.modulus) (product k.modulus) (residues k.modulus k.low) };
-
-    ghost small = { λ k c h. let l : c < k.modulus = ltb-true c k.modulus h in omega arith };
-
-    fn largest_code() -> u64 {
-        Self::LARGEST
-    }
+    ghost small = { λ k. codes_to_largest k.modulus 2147483646 k.high };
 
     fn contains(&self, code: u64) -> bool {
         code < self.modulus
@@ -121,12 +114,8 @@ impl Coefficients for Residues {
         let mut s0 = 0;
         let mut s1 = 1;
         while r1 != 0 {
-            let s = (s0 + p - (r0 / r1) * s1 % p) % p;
-            let r = r0 % r1;
-            r0 = r1;
-            r1 = r;
-            s0 = s1;
-            s1 = s;
+            (s0, s1) = (s1, (s0 + p - (r0 / r1) * s1 % p) % p);
+            (r0, r1) = (r1, r0 % r1);
         }
         if r0 == 1 {
             Ok(s0)
@@ -137,18 +126,11 @@ impl Coefficients for Residues {
 
     // With one division, at the end.
     fn dot(&self, xs: &[u64], ys: &[u64]) -> u64 {
-        let modulus = self.modulus;
         let mut total = 0;
-        let mut i = if xs.len() < ys.len() {
-            xs.len()
-        } else {
-            ys.len()
-        };
-        while i > 0 {
-            i -= 1;
-            total = gather(modulus, total, xs[i], ys[i]);
+        for (x, y) in xs.iter().zip(ys) {
+            total = gather(self.modulus, total, *x, *y);
         }
-        total % modulus
+        total % self.modulus
     }
 }
 
@@ -160,21 +142,17 @@ impl Listed for Residues {
 
     ghost place = { λ k c. c };
 
-    ghost listing = { first_of (Prim.search rules, Prim.grind (arith, Self.row.coded.inj)) };
+    ghost listing = { λ k. own_places k.modulus };
 
     fn count(&self) -> u64 {
         self.modulus
     }
 
     fn nth(&self, n: u64) -> Option<u64> {
-        if n < self.modulus { Some(n) } else { None }
+        (n < self.modulus).then_some(n)
     }
 
     fn place(&self, code: u64) -> Option<u64> {
-        if code < self.modulus {
-            Some(code)
-        } else {
-            None
-        }
+        (code < self.modulus).then_some(code)
     }
 }

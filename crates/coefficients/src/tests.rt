@@ -3,6 +3,7 @@ use crate::bytes::*;
 use crate::kind::*;
 use crate::listed::*;
 use crate::residues::*;
+use rules::refusal::Refusal;
 use std::test::Fail;
 
 #[test]
@@ -19,44 +20,39 @@ fn bytes_add_and_multiply_as_published(rt: HostRuntime) {
 }
 
 // The answer of a call for a reciprocal, or the number of its refusal.
-fn answer(r: Result<u64, ReciprocalFault>) -> (u64, u64) {
-    match r {
-        Ok(v) => (v, 0),
-        Err(e) => (0, e.refusal().number()),
-    }
+fn answer(r: Result<u64, ReciprocalFault>) -> Result<u64, u64> {
+    r.map_err(|e| Refusal::from(e).number())
 }
 
 #[test]
 fn reciprocals_are_given_or_refused(rt: HostRuntime) -> Result<(), Fail> {
     let bytes = Bytes::new();
-    assert_eq!(rt; answer(bytes.reciprocal(0x53)), (0xca, 0));
-    assert_eq!(rt; answer(bytes.reciprocal(0)), (0, 5));
-    assert_eq!(rt; answer(bytes.reciprocal(256)), (0, 2));
+    assert_eq!(rt; answer(bytes.reciprocal(0x53)), Ok(0xca));
+    assert_eq!(rt; answer(bytes.reciprocal(0)), Err(5));
+    assert_eq!(rt; answer(bytes.reciprocal(256)), Err(2));
     let Ok(fifteen) = Residues::new(15) else {
         return Err(Fail::new("15 is refused"));
     };
-    assert_eq!(rt; answer(fifteen.reciprocal(2)), (8, 0));
-    assert_eq!(rt; answer(fifteen.reciprocal(5)), (0, 5));
-    assert_eq!(rt; answer(fifteen.reciprocal(15)), (0, 2));
+    assert_eq!(rt; answer(fifteen.reciprocal(2)), Ok(8));
+    assert_eq!(rt; answer(fifteen.reciprocal(5)), Err(5));
+    assert_eq!(rt; answer(fifteen.reciprocal(15)), Err(2));
     assert_eq!(rt; fifteen.mul(15, 1), 0);
     assert_eq!(rt; fifteen.nth(14), Some(14));
     assert_eq!(rt; fifteen.nth(15), None);
     Ok(())
 }
 
-// The number of the refusal of a modulus, or 0.
-fn refusal(modulus: u64) -> u64 {
-    match Residues::new(modulus) {
-        Ok(_) => 0,
-        Err(e) => e.refusal().number(),
-    }
+// The number of the refusal of a modulus that is not taken.
+fn refusal(modulus: u64) -> Option<u64> {
+    let e = Residues::new(modulus).err()?;
+    Some(Refusal::from(e).number())
 }
 
 #[test]
 fn moduli_from_2_to_2147483647_are_taken(rt: HostRuntime) {
-    assert_eq!(rt; refusal(0), 4);
-    assert_eq!(rt; refusal(1), 4);
-    assert_eq!(rt; refusal(2), 0);
-    assert_eq!(rt; refusal(2147483647), 0);
-    assert_eq!(rt; refusal(2147483648), 4);
+    assert_eq!(rt; refusal(0), Some(4));
+    assert_eq!(rt; refusal(1), Some(4));
+    assert_eq!(rt; refusal(2), None);
+    assert_eq!(rt; refusal(2147483647), None);
+    assert_eq!(rt; refusal(2147483648), Some(4));
 }

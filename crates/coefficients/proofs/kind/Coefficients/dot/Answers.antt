@@ -1,24 +1,19 @@
-use Rattle.std.proofs.Common.{◌≡◌, ℕ, ◌-◌, ◌≤◌, ◌⊎◌, length, get_or, sym, ap, ◌∙◌, inl, inr, arith}
-use Rattle.coefficients.proofs.Dots.{dot_none, dot_more}
+use Rattle.std.proofs.Common.{◌≡◌, fold, sym, ap, ◌∙◌, rules}
+use Rattle.std.proofs.lemmas.Fn.{fold_over, fronts}
+use Rattle.std.proofs.lemmas.Iterator.{YieldsList-from_slice, YieldsList-from_zip, zips}
+use Rattle.std.proofs.lemmas.List.Sums.{fold-append}
+use Rattle.coefficients.proofs.Dots.{one_more, dot_by_fold}
 use Rattle.coefficients.proofs.kind.Coefficients.dot.Goals as goal
-use Rattle.coefficients.proofs.kind.Coefficients.dot.Goals.{then-xs-ys, else-xs-ys}
 
-pub loop-i-init : goal.loop-i-init
-loop-i-init g c =
+pub returns : goal.returns
+returns g c =
     let K = g.Self.Coefficients.arithmetic c.args.self.now in
     let xs = c.args.xs.now in
     let ys = c.args.ys.now in
-    let i : ℕ = c.if-xs-ys.i in
-    let small : (i ≤ length xs) × (i ≤ length ys) = elim c.if-xs-ys.branch [ then-xs-ys w ↦ (omega (arith, w.i-is), omega (arith, w.i-is)) | else-xs-ys w ↦ (omega (arith, w.i-is), omega (arith, w.i-is)) ] in
-    let end : (i ≡ length xs) ⊎ (i ≡ length ys) = elim c.if-xs-ys.branch [ then-xs-ys w ↦ inl (omega (arith, w.i-is)) | else-xs-ys w ↦ inr (omega (arith, w.i-is)) ] in
-    (small.0, small.1, c.zero-total.ensures ∙ sym (dot_none K xs ys i end))
-
-pub loop-i-preserved : goal.loop-i-preserved
-loop-i-preserved g c =
-    let K = g.Self.Coefficients.arithmetic c.args.self.now in
-    let xs = c.args.xs.now in
-    let ys = c.args.ys.now in
-    let i : ℕ = c.loop-i.i in
-    let step = dot_more K xs ys i (omega arith) c.loop-i.invariant.0 c.loop-i.invariant.1 in
-    let inv = c.loop-i.invariant.2 in
-    (omega arith, omega arith, c.add-total.ensures ∙ ap (λ n. K.sum n c.loop-i.total) c.mul.ensures ∙ ap (K.sum (K.product (get_or xs (i - 1) 0) (get_or ys (i - 1) 0))) inv ∙ sym step)
+    let pairs = YieldsList-from_zip {s = c.zip.result} (YieldsList-from_slice xs (search rules)) (YieldsList-from_slice ys (search rules)) in
+    fold_over (zips fronts fronts) (λ p. (p.0.now, p.1.now)) _ (λ ps t. t ≡ fold (one_more K) K.zero ps) _
+    (λ ps t p t' f k h.
+    let next : t' ≡ one_more K t (p.0.now, p.1.now) = search rules in
+    (next ∙ ap (λ n. one_more K n (p.0.now, p.1.now)) k ∙ sym (fold-append (one_more K) K.zero ps _), search rules))
+    _ _ _ _ pairs.runs c.zero.ensures c.fold.ensures.ran
+    ∙ dot_by_fold K (g.met.Self.Coefficients.laws c.args.self.now) xs ys

@@ -1,25 +1,12 @@
 use Rattle.std.proofs.Common.{ℕ, refl, subst, arith}
 use Rattle.std.proofs.lemmas.Bool.{lt-ltb}
-use Rattle.coefficients.proofs.Euclid.{Going, going_first, going_more, found_one, found_none}
+use Rattle.coefficients.proofs.Euclid.{Going, going_more, found_none}
 use Rattle.coefficients.proofs.residues.ResiduesCoefficients.reciprocal.Goals as goal
-
-pub loop-r1-init : goal.loop-r1-init
-loop-r1-init c = going_first c.args.self.now.modulus c.args.a c.args.self.now.low c.if-a-self.false
 
 pub loop-r1-preserved : goal.loop-r1-preserved
 loop-r1-preserved c =
     going_more c.args.self.now.modulus c.args.a c.args.self.now.low c.if-a-self.false
     c.loop-r1.r0 c.loop-r1.r1 c.loop-r1.s0 c.loop-r1.s1 c.loop-r1.invariant (omega arith)
-
-pub returns-then-r0-eq1 : goal.returns-then-r0-eq1
-returns-then-r0-eq1 c =
-    let p : ℕ = c.args.self.now.modulus in
-    let a : ℕ = c.args.a in
-    let s0 : ℕ = c.loop-r1.s0 in
-    let s1 : ℕ = c.loop-r1.s1 in
-    let ended = subst (λ (n : ℕ). Going p a c.loop-r1.r0 n s0 s1) c.loop-r1-test.false c.loop-r1.invariant in
-    let go = subst (λ (n : ℕ). Going p a n 0 s0 s1) c.if-r0-eq1.true ended in
-    (lt-ltb a p c.if-a-self.false, lt-ltb s0 p go.s0_below, found_one p a c.args.self.now.low c.if-a-self.false s0 s1 go)
 
 pub returns-else-r0-eq1 : goal.returns-else-r0-eq1
 returns-else-r0-eq1 c =
