@@ -34,8 +34,8 @@ pub fn multiply_row<K: Coefficients>(
     if count == 0 {
         return Ok(());
     }
-    for i in 0..terms {
-        let negative = kind.sub(kind.zero(), a[i]);
+    for (i, code) in a[..terms].iter().enumerate() {
+        let negative = kind.sub(kind.zero(), *code);
         lessen(kind, product, i, negative, b, count);
     }
     Ok(())
