@@ -7,6 +7,3 @@ loop-slot-init g c = powers_none (g.K.Coefficients.arithmetic c.args.kind.now) c
 
 pub loop-slot-preserved : goal.loop-slot-preserved
 loop-slot-preserved g c = powers_more (g.K.Coefficients.arithmetic c.args.kind.now) c.args.point c.loop-slot.powers c.loop-slot.slot-index c.loop-slot.power c.mul-power.result (omega arith) c.mul-power.ensures c.loop-slot.invariant
-
-pub returns : goal.returns
-returns g c = λ i lt. c.loop-slot.invariant.below i (omega arith)

@@ -1,19 +1,7 @@
-use Rattle.std.proofs.Common.{◌≡◌, ℕ, ◌<◌, refl, ap₂, ◌∙◌, subst, arith, length-take, get_or-take}
+use Rattle.std.proofs.Common.{◌≡◌, ℕ, ◌<◌, ap₂, ◌∙◌, subst, arith, length-take, get_or-take}
 use Rattle.polynomials.specs.Rows.{Sized}
-use Rattle.polynomials.proofs.Inverse.{sized_once}
-use Rattle.polynomials.proofs.Products.{Multiplying, multiplying_none, multiplying_more, multiplied, multiplied_zero}
+use Rattle.polynomials.proofs.Products.{multiplying_none, multiplying_more, multiplied, multiplied_zero}
 use Rattle.polynomials.proofs.product.multiply_row.Goals as goal
-
-pub returns-then-not-has_room : goal.returns-then-not-has_room
-returns-then-not-has_room g c =
-    let K = g.K.Coefficients.arithmetic c.args.kind.now in
-    let told = c.if-not-has_room.ensures in (
-      refl,
-      λ m n s t.
-          let e = sized_once K c.args.a.now m c.size-terms.result s c.size-terms.ensures in
-          let f = sized_once K c.args.b.now n c.size-count.result t c.size-count.ensures in
-          (omega arith, omega arith, omega arith),
-    )
 
 pub returns-then-count-eq0 : goal.returns-then-count-eq0
 returns-then-count-eq0 g c =
