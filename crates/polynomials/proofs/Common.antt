@@ -3,7 +3,7 @@ use mathlib.Core.Path.{◌≡◌, sym, ap, ap₂, fun_ext, subst, ◌∙◌}
 use mathlib.Core.Bool.{true}
 use mathlib.Core.List.{List}
 use mathlib.Core.Logic.{◌⊎◌, inl, inr}
-use Prim.Native.Nat.{ℕ, suc, ◌+◌, ◌-◌, ◌≤◌, ◌<◌}
+use Prim.Native.Nat.{ℕ, suc, ◌-◌, ◌≤◌, ◌<◌}
 use native.Mathlib.Omega.{arith}
 use lib.ListN.{length, get_or}
 use Rattle.std.proofs.lemmas.Bool.{cases_lt}
@@ -22,7 +22,7 @@ use Rattle.polynomials.specs.Relations.{Remainder, NormalOf}
 use Rattle.polynomials.specs.Steps.{Inverts, MadeMonic, Common}
 use Rattle.polynomials.proofs.Terms.{mono, mono_mul, term, of_term}
 use Rattle.polynomials.proofs.Meaning.{of_polynomial, code_at, code_mul, code_one, size_is, cleared}
-use Rattle.polynomials.proofs.Inverse.{sized_least, stuck, zero_product}
+use Rattle.polynomials.proofs.Inverse.{stuck, zero_product}
 
 module _ {E : Type 0} (P : Ring E) where
   open P use {zero as 𝟘, add as ◌⊕◌, mul as ◌⊙◌}
@@ -58,9 +58,6 @@ pub record Euclid (K : Arithmetic) (a₀ b₀ a b : List ℕ) (n : ℕ) : Type 0
   pub inside : Inside K a₀ → Inside K b₀ → Inside K a × Inside K b
   pub shares : (laws : Laws K) → Inside K a₀ → Inside K b₀ → SameShared (polynomials laws) (polynomial laws a₀) (polynomial laws b₀) (polynomial laws a) (polynomial laws b)
 
-pub euclid_none : (K : Arithmetic) (a b : List ℕ) (n : ℕ) → length a ≡ length b → Sized K b n → Euclid K a b a b n
-euclid_none K a b n e s = record { sized = s; long = e; inside = λ ha hb. (ha, hb); shares = λ lw ha hb. record { forth = λ d h. h; back = λ d h. h } }
-
 pub euclid_more : (K : Arithmetic) (a₀ b₀ a b r : List ℕ) (n m : ℕ) → length r ≡ length a → Euclid K a₀ b₀ a b n → (Inside K a → Inside K b → Inside K r × ((laws : Laws K) → Remainder laws a b r)) → Sized K r m → Euclid K a₀ b₀ b r m
 euclid_more K a₀ b₀ a b r n m e u d s = record {
   sized = s;
@@ -68,11 +65,6 @@ euclid_more K a₀ b₀ a b r n m e u d s = record {
   inside = λ ha hb. let h = u.inside ha hb in (h.1, (d h.0 h.1).0);
   shares = λ lw ha hb. let h = u.inside ha hb in let q = (d h.0 h.1).1 lw in shared_step (polynomials lw) _ _ q.quo _ q.is _ _ (u.shares lw ha hb);
 }
-
-pub euclid_falls : (K : Arithmetic) (a₀ b₀ a b r : List ℕ) (n m : ℕ) → 0 < n → Euclid K a₀ b₀ a b n → ((n i : ℕ) → Sized K b n → n ≤ i + 1 → i < length r → get_or r i 0 ≡ K.zero) → Sized K r m → m < n
-euclid_falls K a₀ b₀ a b r n m pos u z s =
-    let le : m ≤ n - 1 = sized_least K r m (n - 1) s (λ i l lt. z n i u.sized (omega arith) lt) in
-    omega arith
 
 module _ {K : Arithmetic} (laws : Laws K) where
   -- a row times the reciprocal of its leading code

@@ -1,14 +1,13 @@
 -- What an answer of `reciprocal` at a leading code says.
-use Rattle.std.proofs.Common.{◌≡◌, ℕ, zero, suc, ◌-◌, ◌<◌, ◌≤◌, Bool, true, false, ◌⊎◌, List, length, get_or, Ok, Err, Result, sym, refl, ap, ◌∙◌, inl, inr, arith, MatchResult}
+use Rattle.std.proofs.Common.{◌≡◌, ℕ, zero, suc, ◌-◌, ◌<◌, ◌≤◌, Bool, true, false, ◌⊎◌, List, length, get_or, sym, refl, ap, ◌∙◌, inl, inr, arith}
 use Rattle.std.proofs.lemmas.Bool.{cases_lt}
 use Rattle.coefficients.specs.Arithmetic.{Arithmetic, Laws}
-use Rattle.coefficients.specs.Reciprocal.{Reciprocal}
 use Rattle.coefficients.specs.declared.kind.ReciprocalFault.{ReciprocalFault}
-use Rattle.coefficients.specs.declared.kind.ReciprocalFault.TheVariants.{Foreign, NoReciprocal}
+use Rattle.coefficients.specs.declared.kind.ReciprocalFault.TheVariants.{NoReciprocal}
 use Rattle.algebra.specs.Ring.{mul_zero}
 use Rattle.polynomials.specs.Elements.{Element, elements}
 use Rattle.polynomials.specs.Rows.{Inside, Sized}
-use Rattle.polynomials.specs.Steps.{Inverts, Undivided, Stuck, leading}
+use Rattle.polynomials.specs.Steps.{Undivided, Stuck, leading}
 
 leading_at : (K : Arithmetic) (g : List ℕ) (n : ℕ) → 0 < n → get_or g (n - 1) 0 ≡ leading K g n
 leading_at K g zero lt = absurd (omega arith)
@@ -30,17 +29,6 @@ module _ {K : Arithmetic} (laws : Laws K) where
   module _ (g : List ℕ) where
     pub undivided_zero : Sized K g 0 → Undivided K g (NoReciprocal K.zero)
     undivided_zero s h = (K.zero, refl, record { size = 0; sized = s; lead = refl; inside = laws.zero_in; none = λ r p. laws.apart (sym (zero_product r (factor_in _ r p)) ∙ p) })
-
-    pub lead_answer : (n : ℕ) (r : Result ℕ ReciprocalFault) → 0 < n → Sized K g n → Reciprocal K (get_or g (n - 1) 0) r → MatchResult r (λ i. Inverts K g n i) (λ e. Undivided K g e)
-    lead_answer n (Ok i) pos s (lead_in, inside, is) = record { some = pos; lead_in = lead_in; inside = inside; is = is }
-    lead_answer n (Err (Foreign c)) pos s (same, foreign) =
-        λ h.
-        let w = s.within in
-        let z : true ≡ false = sym (h (n - 1) (omega arith)) ∙ foreign in
-        let z : ◌≡◌ {A = ℕ} 0 1 = cc in
-        absurd (omega arith)
-    lead_answer n (Err (NoReciprocal c)) pos s (same, inside, none) =
-        λ h. (c, refl, record { size = n; sized = s; lead = same ∙ leading_at K g n pos; inside = ap K.element same ∙ inside; none = λ r p. none r (ap (λ x. K.product x r) (sym same) ∙ p) })
 
 -- a row has one size
 pub sized_least : (K : Arithmetic) (g : List ℕ) (n m : ℕ) → Sized K g n → ((i : ℕ) → m ≤ i → i < length g → get_or g i 0 ≡ K.zero) → n ≤ m

@@ -164,3 +164,14 @@ module _ {K : Arithmetic} (laws : Laws K) where
       go : (k : ℕ) → (k < length q) ⊎ (length q ≤ k) → coefficients laws q k ≡ 𝟘
       go k (inl lt) = zero_at q k (z k lt)
       go k (inr le) = past_end laws q k le
+
+-- taking a multiple away leaves elements
+pub lessened_inside : {K : Arithmetic} → Laws K → (p p' : List ℕ) (s c : ℕ) (b : List ℕ) (n : ℕ) → length p' ≡ length p → Inside K p → Lessened K p p' s c b n → Inside K p'
+lessened_inside {K} laws p p' s c b n len h L i lt = go (cases_lt i s) (cases_lt i (s + n))
+  where
+    go : (i < s) ⊎ (s ≤ i) → (i < s + n) ⊎ (s + n ≤ i) → K.element (get_or p' i 0) ≡ true
+    go (inl x) y = ap K.element (L.below i x) ∙ h i (omega arith)
+    go (inr x) (inl y) =
+        let e : s + (i - s) ≡ i = omega arith in
+        ap (λ j. K.element (get_or p' j 0)) (sym e) ∙ ap K.element (L.inside (i - s) (omega arith)) ∙ laws.difference_in _ _
+    go (inr x) (inr y) = ap K.element (L.above i y) ∙ h i (omega arith)

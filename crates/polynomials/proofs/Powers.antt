@@ -1,18 +1,17 @@
 -- The value of a row from the powers of the point.
-use Rattle.std.proofs.Common.{◌≡◌, ℕ, zero, suc, ◌+◌, ◌<◌, ◌≤◌, true, ◌≢◌, List, [], ◌∷◌, length, get_or, set, sym, ap, ◌∙◌, subst, ap₂, add-zero, arith, get_or-set_other, get_or-set_same, below_more}
+use Rattle.std.proofs.Common.{◌≡◌, ℕ, zero, suc, ◌+◌, ◌<◌, ◌≤◌, true, ◌≢◌, List, [], ◌∷◌, length, get_or, set, sym, ap, ◌∙◌, ap₂, add-zero, arith, get_or-set_other, get_or-set_same, below_more}
 use Rattle.std.proofs.lemmas.Bool.{cond-true}
 use Rattle.coefficients.specs.Arithmetic.{Arithmetic, Laws}
 use Rattle.coefficients.specs.Dot.{dot_of}
 use Rattle.algebra.specs.Ring.{Ring, mul_zero}
 use Rattle.algebra.specs.Solver.{by_ring, quoting}
 use Rattle.algebra.specs.Value.{value as value_of_lem, value_none, value_suc}
-use Rattle.algebra.specs.Polynomial.{at, at_of}
-use Rattle.polynomials.specs.Elements.{Element, element_same, element_discrete, elements, read, coefficients, past_end, polynomial}
+use Rattle.polynomials.specs.Elements.{Element, element_same, elements, read, coefficients}
 use Rattle.polynomials.specs.Powers.{power_of, Powers}
 use Rattle.polynomials.specs.Rows.{Inside}
-use Rattle.polynomials.specs.Relations.{Value}
 use Rattle.polynomials.specs.Steps.{Valued}
-use Rattle.polynomials.proofs.Meaning.{of_polynomial, code_at}
+use Rattle.polynomials.proofs.Meaning.{code_at}
+use Rattle.polynomials.proofs.Horner.{valued_at}
 
 module _ {E : Type 0} (R : Ring E) where
   open R use {add as ◌⊕◌, mul as ◌⊙◌}
@@ -52,14 +51,11 @@ module _ {K : Arithmetic} (laws : Laws K) (x : ℕ) where
 
 pub valued_by : {K : Arithmetic} → Laws K → (l ps : List ℕ) (x v : ℕ) → length l ≤ length ps → Powers K x ps → v ≡ dot_of K l ps → Valued K l x v
 unfolding elements power_of power
-valued_by {K} laws l ps x v le hp e hl hx = (subst (λ (n : ℕ). K.element n ≡ true) (value laws) (at (elements laws) (element_discrete K) (read laws x) (polynomial laws l)).1, value)
-  where
-    value : (lw : Laws K) → Value lw l x v
-    value lw =
-        let V : Element K = value_of_lem (elements lw) (length l) (read lw x) (coefficients lw l) in
-        let whole : (elements lw).mul (power lw x 0) V ≡ V = element_same K (lw.product_one V.0 V.1) in
-        ap (λ (b : Element K). b.0) (at_of (elements lw) (element_discrete K) (read lw x) (polynomial lw l) (coefficients lw l) (length l) (of_polynomial lw l) (past_end lw l))
-        ∙ sym (e ∙ dot_value lw x hx l ps 0 hl le (λ k lt. hp k lt ∙ ap (power_of K x) (let z : k ≡ 0 + k = omega arith in z)) ∙ ap (λ (b : Element K). b.0) whole)
+valued_by {K} laws l ps x v le hp e =
+    valued_at laws l x v λ lw hl hx.
+    let V : Element K = value_of_lem (elements lw) (length l) (read lw x) (coefficients lw l) in
+    let whole : (elements lw).mul (power lw x 0) V ≡ V = element_same K (lw.product_one V.0 V.1) in
+    sym (e ∙ dot_value lw x hx l ps 0 hl le (λ k lt. hp k lt ∙ ap (power_of K x) (let z : k ≡ 0 + k = omega arith in z)) ∙ ap (λ (b : Element K). b.0) whole)
 
 -- the row so far, and the next power
 pub record PowersTo (K : Arithmetic) (x : ℕ) (l : List ℕ) (i p : ℕ) : Type 0 where

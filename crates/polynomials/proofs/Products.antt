@@ -1,5 +1,5 @@
 -- A product of rows, one term of the first after the other.
-use Rattle.std.proofs.Common.{◌≡◌, ℕ, ◌+◌, ◌-◌, ◌<◌, ◌≤◌, true, cond, ◌≢◌, ◌⊎◌, List, [], ◌∷◌, length, get_or, take, sym, ap, ◌∙◌, ap₂, inl, inr, zero-le, arith, length-take, get_or-take}
+use Rattle.std.proofs.Common.{◌≡◌, ℕ, ◌+◌, ◌<◌, ◌≤◌, true, cond, ◌≢◌, ◌⊎◌, List, [], ◌∷◌, length, get_or, take, Ok, sym, ap, ◌∙◌, ap₂, inl, inr, zero-le, arith, length-take, get_or-take}
 use mathlib.Core.Path.{fun_ext}
 use Rattle.std.proofs.lemmas.List.{get_or_default}
 use Rattle.std.proofs.lemmas.Bool.{cases_lt, cases_eq, cond-true}
@@ -13,23 +13,12 @@ use Rattle.polynomials.specs.Rows.{Inside, Sized}
 use Rattle.polynomials.specs.Steps.{Lessened}
 use Rattle.polynomials.specs.Product.{Multiplied}
 use Rattle.polynomials.proofs.Terms.{mono, mono_at, mono_below, mono_under, term, of_term}
-use Rattle.polynomials.proofs.Meaning.{of_polynomial, zero_at, lessened, cleared}
+use Rattle.polynomials.proofs.Meaning.{of_polynomial, zero_at, lessened, lessened_inside, cleared}
 
 -- p is the product of b and of the first i terms of a
 pub record Multiplying (K : Arithmetic) (a b p : List ℕ) (i : ℕ) : Type 0 where
   pub inside : Inside K p
   pub is : (laws : Laws K) → Inside K a → Inside K b → polynomial laws p ≡ (polynomials laws).mul (polynomial laws (take i a)) (polynomial laws b)
-
--- taking a multiple away leaves elements
-lessened_inside : {K : Arithmetic} → Laws K → (p p' : List ℕ) (s c : ℕ) (b : List ℕ) (n : ℕ) → length p' ≡ length p → Inside K p → Lessened K p p' s c b n → Inside K p'
-lessened_inside {K} laws p p' s c b n len h L i lt = go (cases_lt i s) (cases_lt i (s + n))
-  where
-    go : (i < s) ⊎ (s ≤ i) → (i < s + n) ⊎ (s + n ≤ i) → K.element (get_or p' i 0) ≡ true
-    go (inl x) y = ap K.element (L.below i x) ∙ h i (omega arith)
-    go (inr x) (inl y) =
-        let e : s + (i - s) ≡ i = omega arith in
-        ap (λ j. K.element (get_or p' j 0)) (sym e) ∙ ap K.element (L.inside (i - s) (omega arith)) ∙ laws.difference_in _ _
-    go (inr x) (inr y) = ap K.element (L.above i y) ∙ h i (omega arith)
 
 module _ {K : Arithmetic} (laws : Laws K) where
   open elements laws use {zero as 𝟘, add as ◌⊕◌, neg as ⊖◌}
@@ -144,10 +133,10 @@ multiplying_more K laws a b p p' i n negative lt len fits bs e L m = record {
   is = λ lw ha hb. added lw p p' a b i n negative ha hb m.inside lt len fits bs e L (m.is lw ha hb);
 }
 
-pub multiplied : (K : Arithmetic) (a b p : List ℕ) (n : ℕ) → Sized K a n → Multiplying K a b p n → Multiplied K a b p p true
+pub multiplied : (K : Arithmetic) (a b p : List ℕ) (n : ℕ) → Sized K a n → Multiplying K a b p n → Multiplied K a b p p (Ok tt)
 multiplied K a b p n s m ha hb = (m.inside, λ lw. m.is lw ha hb ∙ ap (λ q. (polynomials lw).mul q (polynomial lw b)) (take_all lw a n ha s))
 
 -- a product with zero
-pub multiplied_zero : (K : Arithmetic) → Laws K → (a b p : List ℕ) → Sized K b 0 → ((i : ℕ) → i < length p → get_or p i 0 ≡ K.zero) → Multiplied K a b p p true
+pub multiplied_zero : (K : Arithmetic) → Laws K → (a b p : List ℕ) → Sized K b 0 → ((i : ℕ) → i < length p → get_or p i 0 ≡ K.zero) → Multiplied K a b p p (Ok tt)
 multiplied_zero K laws a b p s z ha hb =
     (λ i lt. ap K.element (z i lt) ∙ laws.zero_in, λ lw. cleared lw p z ∙ sym (ap ((polynomials lw).mul (polynomial lw a)) (cleared lw b (λ i lt. s.zeros i zero-le lt)) ∙ mul_zero (polynomials lw) _))

@@ -52,18 +52,22 @@ pub record NoInverse (K : Arithmetic) (g : List ℕ) (c : ℕ) : Type 0 where
 abbrev pub Undivided : Arithmetic → List ℕ → ReciprocalFault → Type 0
 Undivided K g e = Inside K g → (c : ℕ) × (e ≡ NoReciprocal c) × NoInverse K g c
 
--- `divide_by`: f by g, with the quotient q, and r left of f
+-- `Divisor::divide`: f by g, with the quotient q, and r left of f
 abbrev pub Divided : Arithmetic → (f g r q : List ℕ) → Type 0
 Divided K f g r q = Inside K f → Inside K g → Inside K q × Inside K r × ((laws : Laws K) → Quotient laws f g q r)
 
--- `divide_row`: f by g, with r left of f, and q in place of what the quotient's row held
+-- `divide_row`: the same, with q in place of what the quotient's row held
 abbrev pub Division : Arithmetic → (f g held r q : List ℕ) → Result (Unit {0}) ReciprocalFault → Type 0
-Division K f g held r q (Ok u) = Inside K f → Inside K g → Inside K q × Inside K r × ((laws : Laws K) → Quotient laws f g q r)
+Division K f g held r q (Ok u) = Divided K f g r q
 Division K f g held r q (Err e) = Undivided K g e × (r ≡ f) × (q ≡ held)
 
--- `reduce_row`: r is left of f. On any codes its size is smaller than that of g, so that Euclid's algorithm ends
+-- `Divisor::reduce`: r is left of f. On any codes its size is smaller than that of g, so that Euclid's algorithm ends
+abbrev pub Reduced : Arithmetic → (f g r : List ℕ) → Type 0
+Reduced K f g r = (Inside K f → Inside K g → Inside K r × ((laws : Laws K) → Remainder laws f g r)) × ((n i : ℕ) → Sized K g n → n ≤ i + 1 → i < length r → slice_index r i ≡ K.zero)
+
+-- `reduce_row`: r is left of f
 abbrev pub Reduction : Arithmetic → (f g r : List ℕ) → Result (Unit {0}) ReciprocalFault → Type 0
-Reduction K f g r (Ok u) = (Inside K f → Inside K g → Inside K r × ((laws : Laws K) → Remainder laws f g r)) × ((n i : ℕ) → Sized K g n → n ≤ i + 1 → i < length r → slice_index r i ≡ K.zero)
+Reduction K f g r (Ok u) = Reduced K f g r
 Reduction K f g r (Err e) = Undivided K g e × (r ≡ f)
 
 -- `make_monic`: d is left of f, and the answer is its size

@@ -1,7 +1,7 @@
 // Division with remainder.
-ghost use Rattle.std.specs.Prelude.{◌≡◌, ℕ, ◌+◌, ◌-◌, ◌<◌, ◌≤◌, length, MatchResult, slice_index};
+ghost use Rattle.std.specs.Prelude.{◌≡◌, ℕ, ◌+◌, ◌-◌, ◌<◌, ◌≤◌, length, MatchResult, IfOk, IfErr, slice_index};
 ghost use Rattle.polynomials.specs.Rows.{Sized};
-ghost use Rattle.polynomials.specs.Steps.{Lessened, Inverts, Undivided, Divided, Division, Reduction};
+ghost use Rattle.polynomials.specs.Steps.{Lessened, Inverts, Undivided, Divided, Division, Reduced, Reduction};
 ghost use Rattle.polynomials.specs.Calls.{Dividing};
 
 use crate::faults::RowFault;
@@ -45,44 +45,62 @@ pub fn lead_inverse<K: Coefficients>(
     }
 }
 
-// Clears the place `shift + count - 1` of `rest` by a multiple of `by`, and answers the factor.
-fn cut<K: Coefficients>(
-    kind: &K,
-    rest: &mut [u64],
-    shift: usize,
-    by: &[u64],
+// A row to divide by, with its size and the reciprocal of its leading code.
+#[derive(Drop)]
+pub struct Divisor<'a, K: Coefficients> {
+    pub kind: &'a K,
+    pub row: &'a [u64],
     count: usize,
     inverse: u64,
-) -> u64
-    requires { (shift + count ≤ length rest.old) × ((0 < count) × (count ≤ length by.now)) }
-    ensures factor { result ≡ (K.arithmetic kind.now).product (slice_index rest.old (shift + count - 1)) inverse }
-    ensures left { Lessened (K.arithmetic kind.now) rest.old rest.new shift result by.now count }
-{
-    let factor = kind.mul(rest[shift + count - 1], inverse);
-    lessen(kind, rest, shift, factor, by, count);
-    factor
+    ghost sized: { Sized (K.arithmetic kind.now) row.now count },
+    ghost inverts: { Inverts (K.arithmetic kind.now) row.now count inverse },
 }
 
-// Long division by a row of size `count`, whose leading code has the reciprocal `inverse`: leaves the remainder in `rest`, and the quotient.
-pub fn divide_by<K: Coefficients>(
-    kind: &K,
-    rest: &mut [u64],
-    by: &[u64],
-    count: usize,
-    inverse: u64,
-    quotient: &mut [u64],
-)
-    requires room { length rest.old ≤ length quotient.old }
-    requires lead { (Sized (K.arithmetic kind.now) by.now count) × (Inverts (K.arithmetic kind.now) by.now count inverse) }
-    ensures { Divided (K.arithmetic kind.now) rest.old by.now rest.new quotient.new }
-{
-    clear(kind, quotient);
-    let mut top = rest.len();
-    while top >= count {
-        let shift = top - count;
-        top -= 1;
-        let factor = cut(kind, rest, shift, by, count, inverse);
-        quotient[shift] = factor;
+impl<'a, K: Coefficients> Divisor<'a, K> {
+    pub fn new(kind: &'a K, row: &'a [u64]) -> Result<Divisor<'a, K>, ReciprocalFault>
+        ensures kind { IfOk result (λ d. d.kind.now ≡ kind.now) }
+        ensures row { IfOk result (λ d. d.row.now ≡ row.now) }
+        ensures err { IfErr result (λ e. Undivided (K.arithmetic kind.now) row.now e) }
+    {
+        let count = size(kind, row);
+        let inverse = lead_inverse(kind, row, count)?;
+        Ok(Divisor {
+            kind,
+            row,
+            count,
+            inverse,
+        })
+    }
+
+    // Clears the place `shift + count - 1` of `rest` by a multiple of the divisor, and answers the factor.
+    fn cut(&self, rest: &mut [u64], shift: usize) -> u64
+        requires { shift + self.now.count ≤ length rest.old }
+        ensures factor { result ≡ (K.arithmetic self.now.kind.now).product (slice_index rest.old (shift + self.now.count - 1)) self.now.inverse }
+        ensures left { Lessened (K.arithmetic self.now.kind.now) rest.old rest.new shift result self.now.row.now self.now.count }
+    {
+        let factor = self.kind.mul(rest[shift + self.count - 1], self.inverse);
+        lessen(self.kind, rest, shift, factor, self.row, self.count);
+        factor
+    }
+
+    // Long division: leaves the remainder in `rest`, and the quotient.
+    pub fn divide(&self, rest: &mut [u64], quotient: &mut [u64])
+        requires { length rest.old ≤ length quotient.old }
+        ensures { Divided (K.arithmetic self.now.kind.now) rest.old self.now.row.now rest.new quotient.new }
+    {
+        clear(self.kind, quotient);
+        for shift in (0..(rest.len() + 1).saturating_sub(self.count)).rev() {
+            quotient[shift] = self.cut(rest, shift);
+        }
+    }
+
+    // The same without a quotient. Its loop stands by itself: one for both would take a closure for the factors, and be longer.
+    pub fn reduce(&self, rest: &mut [u64])
+        ensures { Reduced (K.arithmetic self.now.kind.now) rest.old self.now.row.now rest.new }
+    {
+        for shift in (0..(rest.len() + 1).saturating_sub(self.count)).rev() {
+            self.cut(rest, shift);
+        }
     }
 }
 
@@ -96,9 +114,7 @@ pub fn divide_row<K: Coefficients>(
     requires { length rest.old ≤ length quotient.old }
     ensures { Division (K.arithmetic kind.now) rest.old by.now quotient.old rest.new quotient.new result }
 {
-    let count = size(kind, by);
-    let inverse = lead_inverse(kind, by, count)?;
-    divide_by(kind, rest, by, count, inverse, quotient);
+    Divisor::new(kind, by)?.divide(rest, quotient);
     Ok(())
 }
 
@@ -110,13 +126,6 @@ pub fn reduce_row<K: Coefficients>(
 ) -> Result<(), ReciprocalFault>
     ensures { Reduction (K.arithmetic kind.now) rest.old by.now rest.new result }
 {
-    let count = size(kind, by);
-    let inverse = lead_inverse(kind, by, count)?;
-    let mut top = rest.len();
-    while top >= count {
-        let shift = top - count;
-        top -= 1;
-        cut(kind, rest, shift, by, count, inverse);
-    }
+    Divisor::new(kind, by)?.reduce(rest);
     Ok(())
 }

@@ -48,11 +48,9 @@ pub fn image<K: Coefficients>(
 pub fn horner<K: Coefficients>(kind: &K, row: &[u64], point: u64) -> u64
     ensures { Valued (K.arithmetic kind.now) row.now point result }
 {
-    let mut value = kind.zero();
-    for i in (0..row.len()).rev() {
-        value = kind.add(row[i], kind.mul(point, value));
-    }
-    value
+    row.iter().rfold(kind.zero(), |value, code| {
+        kind.add(*code, kind.mul(point, value))
+    })
 }
 
 // Writes 1, x, x², .. for the point x into `powers`, as far as it goes.
@@ -60,18 +58,19 @@ pub fn fill_powers<K: Coefficients>(kind: &K, point: u64, powers: &mut [u64])
     ensures { Powers (K.arithmetic kind.now) point powers.new }
 {
     let mut power = kind.one();
-    for i in 0..powers.len() {
-        powers[i] = power;
+    for slot in powers.iter_mut() {
+        *slot = power;
         power = kind.mul(point, power);
     }
 }
 
 // The image of a table, row by row.
 pub fn image_row<K: Coefficients>(kind: &K, table: &[u64], point: u64, row: &mut [u64])
-    requires { (length table.now ≡ 256) × (length row.old ≡ 16) }
+    requires table { length table.now ≡ 256 }
+    requires row { length row.old ≡ 16 }
     ensures { Imaged (K.arithmetic kind.now) table.now point row.new }
 {
-    for i in 0..16usize {
-        row[i] = horner(kind, &table[16 * i..16 * i + 16], point);
+    for (i, codes) in table.chunks_exact(16).enumerate() {
+        row[i] = horner(kind, codes, point);
     }
 }

@@ -4,9 +4,10 @@ ghost use Rattle.polynomials.specs.Numbers.{row_number};
 ghost use Rattle.polynomials.specs.declared.faults.RowFault.TheVariants.{Reciprocal};
 
 use coefficients::kind::ReciprocalFault;
+use rules::refusal::Refusal;
 
-// `row` is the number of the argument, from 1, among those of the call that hold codes.
-#[derive(Clone, Copy)]
+// `row` is the place of the argument, from 1, among those of the call that hold codes: an ordinal to show, so it stays a number.
+#[derive(Clone, Copy, Debug, PartialEq, Eq)]
 pub enum RowFault {
     // A row whose length does not fit.
     Length { row: u64, length: usize },
@@ -24,7 +25,7 @@ impl RowFault {
         match self {
             RowFault::Length { .. } => 1,
             RowFault::Foreign { .. } => 2,
-            RowFault::Reciprocal(e) => e.refusal().number(),
+            RowFault::Reciprocal(e) => Refusal::from(*e).number(),
         }
     }
 }

@@ -20,8 +20,7 @@ pub fn gcd<K: Coefficients>(kind: &K, a: &mut [u64], b: &mut [u64]) -> Result<us
     }
     check_codes(kind, a, 1)?;
     check_codes(kind, b, 2)?;
-    let size = gcd_row(kind, a, b)?;
-    Ok(size)
+    Ok(gcd_row(kind, a, b)?)
 }
 
 // Makes the leading coefficient one, and answers the size.

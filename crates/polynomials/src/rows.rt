@@ -10,16 +10,14 @@ use coefficients::kind::Coefficients;
 pub fn check_codes<K: Coefficients>(kind: &K, codes: &[u64], row: u64) -> Result<(), RowFault>
     ensures { MatchResult result (λ _. Inside (K.arithmetic kind.now) codes.now) (λ e. ForeignRow (K.arithmetic kind.now) codes.now row e) }
 {
-    for (place, code) in codes.iter().enumerate() {
-        if !kind.contains(*code) {
-            return Err(RowFault::Foreign {
-                row,
-                place,
-                code: *code,
-            });
-        }
+    match codes.iter().position(|code| !kind.contains(*code)) {
+        Some(place) => Err(RowFault::Foreign {
+            row,
+            place,
+            code: codes[place],
+        }),
+        None => Ok(()),
     }
-    Ok(())
 }
 
 // The size of a row: one more than the place of the last code that is not zero, or 0.
@@ -27,21 +25,16 @@ pub fn size<K: Coefficients>(kind: &K, row: &[u64]) -> usize
     ensures { Sized (K.arithmetic kind.now) row.now result }
 {
     let zero = kind.zero();
-    let mut n = row.len();
-    while n > 0 && row[n - 1] == zero {
-        n -= 1;
-    }
-    n
+    row.iter()
+        .rposition(|code| *code != zero)
+        .map_or(0, |last| last + 1)
 }
 
 // Writes zero into each place.
 pub fn clear<K: Coefficients>(kind: &K, row: &mut [u64])
     ensures { (i : ℕ) → i < length row.old → slice_index row.new i ≡ (K.arithmetic kind.now).zero }
 {
-    let zero = kind.zero();
-    for i in 0..row.len() {
-        row[i] = zero;
-    }
+    row.fill(kind.zero());
 }
 
 // Takes `by` times the first `count` codes of `row`, moved up by `shift`, from `acc`.
@@ -53,11 +46,12 @@ pub fn lessen<K: Coefficients>(
     row: &[u64],
     count: usize,
 )
-    requires { (shift + count ≤ length acc.old) × (count ≤ length row.now) }
+    requires room { shift + count ≤ length acc.old }
+    requires codes { count ≤ length row.now }
     ensures { Lessened (K.arithmetic kind.now) acc.old acc.new shift by row.now count }
 {
-    for j in 0..count {
-        acc[shift + j] = kind.sub(acc[shift + j], kind.mul(by, row[j]));
+    for (j, code) in row[..count].iter().enumerate() {
+        acc[shift + j] = kind.sub(acc[shift + j], kind.mul(by, *code));
     }
 }
 
@@ -65,7 +59,7 @@ pub fn lessen<K: Coefficients>(
 pub fn scale<K: Coefficients>(kind: &K, row: &mut [u64], by: u64)
     ensures { (i : ℕ) → i < length row.old → slice_index row.new i ≡ (K.arithmetic kind.now).product by (slice_index row.old i) }
 {
-    for i in 0..row.len() {
-        row[i] = kind.mul(by, row[i]);
+    for code in row.iter_mut() {
+        *code = kind.mul(by, *code);
     }
 }

@@ -1,23 +1,22 @@
-use Rattle.std.proofs.Common.{◌≡◌, ℕ, ◌+◌, ◌-◌, ◌*◌, ◌<◌, ◌≢◌, length, get_or, take, drop, set, sym, subst, arith, get_or-set_other, get_or-set_same, below_more}
-use Rattle.polynomials.specs.Rows.{row_of}
+use Rattle.std.proofs.Common.{ℕ, ◌*◌, List, length, sym, ap, subst, ◌∙◌, arith, length-drop}
 use Rattle.polynomials.specs.Steps.{Valued}
-use Rattle.polynomials.proofs.Images.{imaged}
+use Rattle.polynomials.proofs.Images.{row_turn, values_more, imaged}
 use Rattle.polynomials.proofs.evaluate.image_row.Goals as goal
 
 pub loop-i-preserved : goal.loop-i-preserved
 loop-i-preserved g c =
     let K = g.K.Coefficients.arithmetic c.args.kind.now in
-    let t = c.args.table.now in
-    let α = c.args.point in
-    let row = c.loop-i.row in
-    let i = c.loop-i.i in
-    let v = c.horner.result in
-    let width : (16 * i + 16) - 16 * i ≡ 16 = omega arith in
-    let within : i < length row = omega arith in
-    let told : Valued K (row_of t i) α v = subst (λ (n : ℕ). Valued K (take n (drop (16 * i) t)) α v) width c.horner.ensures in
-    below_more (λ k. Valued K (row_of t k) α (get_or (set row i v) k 0)) i
-    (λ k h. let other : k ≢ i = omega arith in subst (λ (n : ℕ). Valued K (row_of t k) α n) (sym (get_or-set_other row i k v 0 other)) (c.loop-i.invariant k h))
-    (subst (λ (n : ℕ). Valued K (row_of t i) α n) (sym (get_or-set_same row i v 0 within)) told)
+    let table = c.args.table.now in
+    let s = c.in-Some.ensures.steps in
+    let turn = row_turn table _ c.in-Some.codes.now _ _ c.requires.table c.loop-i.invariant.rest s.0.1.0 (s.0.1.1 ∙ c.loop-i.invariant.size) in
+    rw (s.2, s.1) record {
+      size = omega arith;
+      rest = turn.2;
+      values = values_more K table c.loop-i.row c.args.point _ c.horner.result (rw c.loop-i.auto.row (omega arith)) (subst (λ (row : List ℕ). Valued K row c.args.point c.horner.result) (sym turn.1) c.horner.ensures) c.loop-i.invariant.values;
+    }
 
 pub returns : goal.returns
-returns g c = imaged (g.met.K.Coefficients.laws c.args.kind.now) c.args.table.now c.args.point c.loop-i.row (omega arith) (λ i lt. c.loop-i.invariant i (omega arith))
+returns g c =
+    let left = ap length c.loop-i.invariant.rest ∙ length-drop (16 * c.loop-i.i-iterator.count) c.args.table.now in
+    let end = c.in-None.ensures.steps in
+    imaged (g.met.K.Coefficients.laws c.args.kind.now) c.args.table.now c.args.point c.loop-i.row (omega arith) (λ i lt. c.loop-i.invariant.values i (omega arith))

@@ -1,5 +1,4 @@
-use Rattle.std.proofs.Common.{◌≡◌, ℕ, length, refl, subst, arith}
-use Rattle.std.proofs.lemmas.Result.{err_from_is_err_and}
+use Rattle.std.proofs.Common.{◌≡◌, ℕ, length, subst, arith}
 use Rattle.polynomials.specs.Rows.{Sized}
 use Rattle.polynomials.proofs.Common.{scaled_inside, scaled_sized, scaled_normal, zero_normal}
 use Rattle.polynomials.proofs.gcd.make_monic.Goals as goal
@@ -8,11 +7,6 @@ pub returns-then-n-eq0 : goal.returns-then-n-eq0
 returns-then-n-eq0 g c h =
     let s = subst (λ (n : ℕ). Sized (g.K.Coefficients.arithmetic c.args.kind.now) c.args.row.now n) c.if-n-eq0.true c.size-n.ensures in
     (h, s, zero_normal (g.met.K.Coefficients.laws c.args.kind.now) c.args.row.now h s)
-
-pub returns-in_err-inverse : goal.returns-in_err-inverse
-returns-in_err-inverse g c =
-    let p = err_from_is_err_and c.from_residual.result c.from_residual.ensures.1 in
-    rw (p.1, p.2) (refl, (c.size-n.result, omega arith, c.size-n.ensures, c.in_err-inverse.ensures))
 
 pub returns : goal.returns
 returns g c h =

@@ -1,19 +1,7 @@
-use Rattle.std.proofs.Common.{◌≡◌, ℕ, get_or, refl, ap, ◌∙◌, subst, arith}
+use Rattle.std.proofs.Common.{◌≡◌, ℕ, ◌<◌, ap₂, ◌∙◌, subst, arith, length-take, get_or-take}
 use Rattle.polynomials.specs.Rows.{Sized}
-use Rattle.polynomials.proofs.Inverse.{sized_once}
-use Rattle.polynomials.proofs.Products.{Multiplying, multiplying_none, multiplying_more, multiplied, multiplied_zero}
+use Rattle.polynomials.proofs.Products.{multiplying_none, multiplying_more, multiplied, multiplied_zero}
 use Rattle.polynomials.proofs.product.multiply_row.Goals as goal
-
-pub returns-then-not-has_room : goal.returns-then-not-has_room
-returns-then-not-has_room g c =
-    let K = g.K.Coefficients.arithmetic c.args.kind.now in
-    let told = c.if-not-has_room.ensures in (
-      refl,
-      λ m n s t.
-          let e = sized_once K c.args.a.now m c.size-terms.result s c.size-terms.ensures in
-          let f = sized_once K c.args.b.now n c.size-count.result t c.size-count.ensures in
-          (omega arith, omega arith, omega arith),
-    )
 
 pub returns-then-count-eq0 : goal.returns-then-count-eq0
 returns-then-count-eq0 g c =
@@ -27,13 +15,20 @@ loop-i-init g c = multiplying_none (g.K.Coefficients.arithmetic c.args.kind.now)
 pub loop-i-preserved : goal.loop-i-preserved
 loop-i-preserved g c =
     let K = g.K.Coefficients.arithmetic c.args.kind.now in
+    let a = c.args.a.now in
+    let i = c.loop-i.i in
+    let n = c.size-terms.result in
+    let some = c.size-terms.ensures.within in
+    let terms = length-take n a in
+    let below : i < n = omega arith in
     let room = c.if-not-has_room.ensures (omega arith) (omega arith) in
-    let w = c.size-terms.ensures.within in
-    multiplying_more K (g.met.K.Coefficients.laws c.args.kind.now) c.args.a.now c.args.b.now c.loop-i.product c.lessen.new.acc c.loop-i.i c.size-count.result c.sub-negative.result
-    (omega arith) (omega arith) (omega arith) c.size-count.ensures (c.sub-negative.ensures ∙ ap (λ z. K.difference z (get_or c.args.a.now c.loop-i.i 0)) c.zero.ensures) c.lessen.ensures c.loop-i.invariant
+    multiplying_more K (g.met.K.Coefficients.laws c.args.kind.now) a c.args.b.now c.loop-i.product c.lessen.new.acc i c.size-count.result c.sub-negative.result
+    (omega arith) (omega arith) (omega arith) c.size-count.ensures (c.sub-negative.ensures ∙ ap₂ K.difference c.zero.ensures (get_or-take n a i 0 below)) c.lessen.ensures c.loop-i.invariant
 
 pub returns : goal.returns
 returns g c =
     let K = g.K.Coefficients.arithmetic c.args.kind.now in
+    let some = c.size-terms.ensures.within in
+    let terms = length-take c.size-terms.result c.args.a.now in
     let e : c.loop-i.i ≡ c.size-terms.result = omega arith in
-    multiplied K c.args.a.now c.args.b.now c.loop-i.product c.size-terms.result c.size-terms.ensures (subst (λ (i : ℕ). Multiplying K c.args.a.now c.args.b.now c.loop-i.product i) e c.loop-i.invariant)
+    multiplied K c.args.a.now c.args.b.now c.loop-i.product c.size-terms.result c.size-terms.ensures (rw e at c.loop-i.invariant)
