@@ -14,8 +14,8 @@ use polynomials::evaluate::image;
 use polynomials::faults::RowFault;
 use polynomials::gcd::gcd;
 use std::io;
-use tables::content::take_content;
 use tables::lead::lead_gcd;
+use tables::rows::Rows;
 use text::Notation;
 
 // Two tables over a kind, and how its codes are written: place 16 i + j of a table holds the coefficient of x^i y^j.
@@ -135,7 +135,9 @@ impl<K: Coefficients + Copy> Pair<K> {
     // Prints γ: what the leading coefficients in x share.
     fn print_gamma(&self, rt: &impl Print) -> io::Result<()> {
         let mut shared = [0; 16];
-        match lead_gcd(&self.kind, &self.a, &self.b, 16, &mut shared) {
+        let a = Rows::new(&self.a, 16);
+        let b = Rows::new(&self.b, 16);
+        match lead_gcd(&self.kind, &a, &b, &mut shared) {
             Ok(_) => println!(rt;
                 "the leading coefficients of A' and B' share {}",
                 self.notation.row(&shared, 'y')
@@ -170,7 +172,7 @@ impl<K: Coefficients + Copy> Pair<K> {
     ) -> io::Result<[u64; 256]> {
         let mut content = [0; 16];
         let mut part = [0; 256];
-        match take_content(&self.kind, table, 16, &mut content, &mut part) {
+        match Rows::new(table, 16).take_content(&self.kind, &mut content, &mut part) {
             Ok(_) => {
                 let row = self.notation.row(&content, 'y');
                 let rest = self.notation.table(&part);
