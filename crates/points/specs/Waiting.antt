@@ -1,5 +1,5 @@
 -- The lists of codes that wait in sources.
-use Rattle.std.specs.Prelude.{◌≡◌, ℕ, ◌-◌, ◌<◌, Bool, true, false, cond, ◌&&◌, List, [], ◌∷◌, ◌++◌, map, length, drop, Some, None, Option, slice_index}
+use Rattle.std.specs.Prelude.{◌≡◌, ℕ, ◌-◌, ◌<◌, Bool, true, false, cond, ◌&&◌, List, [], ◌∷◌, ◌++◌, map, length, Some, None, Option, slice_index}
 use Rattle.std.specs.List.{range_with_len}
 use Rattle.coefficients.specs.Arithmetic.{Arithmetic}
 
@@ -12,10 +12,6 @@ Drawn before after None = (before ≡ []) × (after ≡ [])
 abbrev pub some_left : List ℕ → Bool
 some_left [] = false
 some_left (x ∷ xs) = true
-
--- what waits in a supplied list from the place `next` on
-abbrev pub supplied_from : List ℕ → (next : ℕ) → List ℕ
-supplied_from codes next = drop next codes
 
 -- what waits in a counting source from the place `next` on: the elements in the places from there to the last
 abbrev pub counting_from : (nth : ℕ → ℕ) (count next : ℕ) → List ℕ
