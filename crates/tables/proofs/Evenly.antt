@@ -111,9 +111,10 @@ module _ (w i s k : ℕ) (q y : List ℕ) (at : s ≡ w * i) (fits : s + w ≤ l
       let wide : s + w - s ≡ w = omega arith in
       ap (λ n. take w (drop n (put_mid s k q y))) (sym at) ∙ ap (λ n. take n (drop s (put_mid s k q y))) (sym wide) ∙ between-put_mid s k q y (s + w) (omega arith) (omega arith)
 
--- the same rows as parts of slices
-pub even_parts : (K : Arithmetic) (w i s : ℕ) (t g q y : List ℕ) (r : Result (Unit {0}) DivisionFault) → s ≡ w * i → Even K (take (s + w - s) (drop s t)) g (take (s + w - s) (drop s q)) y r → Even K (cut_row w t i) g (cut_row w q i) y r
-even_parts K w i s t g q y r at h = subst (λ (l : List ℕ). Even K l g (cut_row w q i) y r) (part_row w i s t at) (subst (λ (l : List ℕ). Even K (take (s + w - s) (drop s t)) g l y r) (part_row w i s q at) h)
+-- rows that are equal, and the row of the quotient as a part of a slice
+pub even_rows : (K : Arithmetic) (w i s : ℕ) (f f' g g' q y : List ℕ) (r : Result (Unit {0}) DivisionFault) → f ≡ f' → g ≡ g' → s ≡ w * i → Even K f g (take (s + w - s) (drop s q)) y r → Even K f' g' (cut_row w q i) y r
+even_rows K w i s f f' g g' q y r ef eg at h =
+    subst (λ (l : List ℕ). Even K l g' (cut_row w q i) y r) ef (subst (λ (l : List ℕ). Even K f l (cut_row w q i) y r) eg (subst (λ (l : List ℕ). Even K f g l y r) (part_row w i s q at) h))
 
 pub part_length : (w s : ℕ) (q : List ℕ) → s + w ≤ length q → length (take (s + w - s) (drop s q)) ≡ w
 part_length w s q fits =
@@ -134,7 +135,10 @@ divided_none {K} laws w t g q z = record {
   is = λ lw ht hg j lt. absurd (omega arith);
 }
 
-module _ (K : Arithmetic) (w : ℕ) (t g q : List ℕ) (i s k : ℕ) (y : List ℕ) (at : s ≡ w * i) (fits : s + w ≤ length q) (long : length y ≡ w) (u : Divided K w t g q i) where
+module _ (K : Arithmetic) (w : ℕ) (t g q : List ℕ) (i s k : ℕ) (y : List ℕ) (at : s ≡ w * i) (fits : s + w ≤ length q) (kept : length y ≡ length (take (s + w - s) (drop s q))) (u : Divided K w t g q i) where
+  long : length y ≡ w
+  long = kept ∙ part_length w s q fits
+
   pub divided_more : Even K (cut_row w t i) g (cut_row w q i) y (Ok tt) → Divided K w t g (put_mid s k q y) (i + 1)
   divided_more d = record {
     inside = λ ht hg. put_inside w i s k q y at fits long K (u.inside ht hg) (d (row_inside K w t i ht) hg).0;

@@ -1,7 +1,7 @@
 -- A row times y − x, from the constant up.
-use Rattle.std.proofs.Common.{◌≡◌, ℕ, zero, suc, ◌+◌, ◌<◌, ◌≤◌, true, ◌≢◌, ◌⊎◌, List, length, get_or, set, sym, refl, ap, ◌∙◌, ap₂, inl, inr, add-one, arith, get_or-set_other, get_or-set_same}
+use Rattle.std.proofs.Common.{◌≡◌, ℕ, zero, suc, ◌<◌, ◌≤◌, true, ◌⊎◌, List, length, get_or, sym, ap, ◌∙◌, ap₂, inl, inr, arith}
 use mathlib.Core.Path.{fun_ext}
-use Rattle.std.proofs.lemmas.Bool.{cond-true, cases_lt, cases_eq}
+use Rattle.std.proofs.lemmas.Bool.{cond-true, cases_lt}
 use Rattle.coefficients.specs.Arithmetic.{Arithmetic, Laws}
 use Rattle.algebra.specs.Ring.{Ring, ring, one_mul}
 use Rattle.algebra.specs.Series.{Series, series, cons, cons_zero, cons_suc, cons_mul, at_add, at_const_mul}
@@ -23,21 +23,6 @@ pub record Growing (K : Arithmetic) (l : List ℕ) (x : ℕ) (l' : List ℕ) (j 
   pub done : (k : ℕ) → k < j → get_or l' k 0 ≡ K.difference (raised K l k) (K.product x (get_or l k 0))
   pub rest : (k : ℕ) → j ≤ k → get_or l' k 0 ≡ get_or l k 0
   pub last : below ≡ raised K l j
-
-module _ (K : Arithmetic) (l : List ℕ) (x : ℕ) where
-  pub growing_none : (b : ℕ) → b ≡ K.zero → Growing K l x l 0 b
-  growing_none b e = record { done = λ k lt. absurd (omega arith); rest = λ k le. refl; last = e }
-
-  pub growing_more : (l' : List ℕ) (j b c : ℕ) → j < length l' → c ≡ K.difference b (K.product x (get_or l' j 0)) → Growing K l x l' j b → Growing K l x (set l' j c) (j + 1) (get_or l' j 0)
-  growing_more l' j b c lt e h = record {
-    done = λ k l. go k (cases_eq k j) (omega arith);
-    rest = λ k le. get_or-set_other l' j k c 0 (omega arith) ∙ h.rest k (omega arith);
-    last = rw add-one (h.rest j (omega arith));
-  }
-    where
-      go : (k : ℕ) → (k ≡ j) ⊎ (k ≢ j) → k ≤ j → get_or (set l' j c) k 0 ≡ K.difference (raised K l k) (K.product x (get_or l k 0))
-      go k (inl p) le = rw p (get_or-set_same l' j c 0 lt ∙ e ∙ ap₂ (λ u v. K.difference u (K.product x v)) h.last (h.rest j (omega arith)))
-      go k (inr ne) le = get_or-set_other l' j k c 0 ne ∙ h.done k (omega arith)
 
 module _ {E : Type 0} (R : Ring E) where
   open R use {zero as 𝟘, add as ◌⊕◌, neg as ⊖◌, mul as ◌⊙◌}

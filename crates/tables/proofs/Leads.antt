@@ -1,5 +1,5 @@
 -- The leading row of a table, and the greatest common divisor of two.
-use Rattle.std.proofs.Common.{◌≡◌, ℕ, pred, ◌-◌, ◌<◌, ◌≤◌, ◌⊎◌, List, Ok, Err, Result, sym, ap, ◌∙◌, subst, inl, inr, arith}
+use Rattle.std.proofs.Common.{◌≡◌, ℕ, pred, ◌-◌, List, Ok, Err, Result, sym, ap, ◌∙◌, subst, arith}
 use Rattle.coefficients.specs.Arithmetic.{Arithmetic, Laws}
 use Rattle.coefficients.specs.declared.kind.ReciprocalFault.{ReciprocalFault}
 use Rattle.algebra.specs.Divisors.{Greatest}
@@ -13,12 +13,11 @@ use Rattle.tables.specs.Lead.{LeadRow, SharedLeads}
 use Rattle.tables.proofs.Sizes.{row_inside, of_rows}
 
 -- the row below the size in x, or the first where that is 0
-pub lead_row : (K : Arithmetic) (w : ℕ) (t : List ℕ) (n i : ℕ) → SizeX K w t n → ((0 < n) × (i ≡ n - 1)) ⊎ ((n ≤ 0) × (i ≡ 0)) → LeadRow K w t (cut_row w t i)
-lead_row K w t n i s at h = (row_inside K w t i h, λ lw. sym (of_rows lw w t i) ∙ ap (polynomial_xy lw w t).0 (place lw at))
+pub lead_row : (K : Arithmetic) (w : ℕ) (t : List ℕ) (n i : ℕ) → SizeX K w t n → i ≡ n - 1 → LeadRow K w t (cut_row w t i)
+lead_row K w t n i s at h = (row_inside K w t i h, λ lw. sym (of_rows lw w t i) ∙ ap (polynomial_xy lw w t).0 (place lw))
   where
-    place : (lw : Laws K) → ((0 < n) × (i ≡ n - 1)) ⊎ ((n ≤ 0) × (i ≡ 0)) → i ≡ pred (size (polynomials lw) (polynomial_xy lw w t))
-    place lw (inl (pos, e)) = let z = s h lw in omega arith
-    place lw (inr (none, e)) = let z = s h lw in omega arith
+    place : (lw : Laws K) → i ≡ pred (size (polynomials lw) (polynomial_xy lw w t))
+    place lw = let z = s h lw in omega arith
 
 module _ (K : Arithmetic) (w : ℕ) (a b f g d e : List ℕ) (u : LeadRow K w a f) (v : LeadRow K w b g) where
   pub shared_leads : (r : Result ℕ ReciprocalFault) → Common K f g d e r → SharedLeads K w a b d r

@@ -8,6 +8,7 @@ pub mod Points
 pub mod Growing
 pub mod Correcting
 pub mod Newton
+pub mod Pairs
 pub mod Leads
 pub mod Multiples
 pub mod MonicRows

@@ -112,12 +112,12 @@ rows_zero : {K : Arithmetic} (lw : Laws K) (w : ℕ) (q : List ℕ) → ZeroRow 
 rows_zero lw w q z k = of_rows lw w q k ∙ cleared lw (cut_row w q k) (λ j lt. let a = length-take w (drop (w * k) q) in let b = length-drop (w * k) q in cut_row_code w q k j (omega arith) ∙ z (w * k + j) (omega arith))
 
 module _ (K : Arithmetic) (w : ℕ) (t₀ b : List ℕ) (n : ℕ) (lt : length t₀ ≡ 16 * w) (lb : length b ≡ 16 * w) (pos : 0 < n) (sized : SizedX K w b n) where
-  pub division_none : Laws K → (q : List ℕ) → ZeroRow K q → LongDivision K w t₀ b t₀ q n 16
-  division_none laws q z = record {
+  pub division_none : Laws K → (q : List ℕ) → ZeroRow K q → (top : ℕ) → top ≡ 16 → LongDivision K w t₀ b t₀ q n top
+  division_none laws q z top e = record {
     within = omega arith;
     inside = λ ht hb. (ht, λ i l. ap K.element (z i l) ∙ laws.zero_in);
     is = λ lw ht hb. sym (ap (λ Q. (poly₂ (elements lw) (element_discrete K)).add ((poly₂ (elements lw) (element_discrete K)).mul (polynomial_xy lw w b) Q) (polynomial_xy lw w t₀)) (none lw) ∙ ap (λ X. (poly₂ (elements lw) (element_discrete K)).add X (polynomial_xy lw w t₀)) (mul_zero (poly₂ (elements lw) (element_discrete K)) _) ∙ zero_add (poly₂ (elements lw) (element_discrete K)) _);
-    below = λ lw ht hb k far. of_past lw w t₀ k lt far;
+    below = λ lw ht hb k far. of_past lw w t₀ k lt (omega arith);
     free = λ lw ht hb k le. rows_zero lw w q z k;
   }
     where
@@ -200,12 +200,12 @@ module _ (K : Arithmetic) (w : ℕ) (t₀ b : List ℕ) (n : ℕ) (lt : length t
               let z : (polynomial_xy lw w b).0 i ≡ O = below_size (polynomials lw) eqP (polynomial_xy lw w b) n (let a = size_b lw hb in omega arith) i (omega arith) in
               less i e ∙ ap₂ (λ x y. x ⊕ ⊖ y) (u.below lw ht hb k l) (ap (λ x. c.factor ⊙ x) z ∙ mul_zero (polynomials lw) _) ∙ zero_add (polynomials lw) _ ∙ neg_zero (polynomials lw)
 
-    pub division_more : (t' q' : List ℕ) → CutTop K w t b s n q t' q' (Ok tt) → LongDivision K w t₀ b t' q' n (top - 1)
-    division_more t' q' c = record {
+    pub division_more : (t' q' : List ℕ) (less : ℕ) → less + 1 ≡ top → CutTop K w t b s n q t' q' (Ok tt) → LongDivision K w t₀ b t' q' n less
+    division_more t' q' less next c = record {
       within = let a = u.within in omega arith;
       inside = λ ht hb. let h = u.inside ht hb in let told = c h.0 hb h.1 in (told.0, told.1);
       is = λ lw ht hb. let d = cut lw ht hb in sum_kept (poly₂ (elements lw) (element_discrete K)) _ _ _ _ _ _ _ (u.is lw ht hb) (quotient_is lw ht hb t' q' d) (rest_is lw ht hb t' q' d);
-      below = λ lw ht hb k le. gone lw ht hb t' q' (cut lw ht hb) k le;
+      below = λ lw ht hb k le. gone lw ht hb t' q' (cut lw ht hb) k (omega arith);
       free = λ lw ht hb k le. (cut lw ht hb).others k (λ e. absurd (omega arith)) ∙ u.free lw ht hb k (omega arith);
     }
       where

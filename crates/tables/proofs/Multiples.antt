@@ -1,5 +1,5 @@
 -- Each row of a table times one row.
-use Rattle.std.proofs.Common.{◌≡◌, ℕ, zero, suc, ◌+◌, ◌-◌, ◌*◌, ◌<◌, ◌≤◌, true, false, ◌⊎◌, List, length, get_or, sym, ap, ◌∙◌, subst, inl, inr, arith}
+use Rattle.std.proofs.Common.{◌≡◌, ℕ, zero, suc, ◌+◌, ◌-◌, ◌*◌, ◌<◌, ◌≤◌, ◌⊎◌, List, Ok, Err, length, get_or, take, drop, sym, ap, ◌∙◌, subst, inl, inr, arith}
 use mathlib.Core.Path.{fun_ext}
 use native.Mathlib.Decide.{ℕ_discrete}
 use borrow.Rule.Slice.PartMut.{put_mid}
@@ -14,12 +14,13 @@ use Rattle.bivariate.proofs.Width.{within_width}
 use Rattle.polynomials.specs.Elements.{element_discrete, elements, field, polynomial, polynomials, polynomial_xy}
 use Rattle.polynomials.specs.Rows.{Inside, Sized, cut_row}
 use Rattle.polynomials.specs.Product.{Multiplied}
+use Rattle.polynomials.specs.declared.product.NoRoom.{NoRoom}
 use Rattle.tables.specs.Degrees.{ZeroRow, width_over}
 use Rattle.tables.specs.Content.{lifted}
 use Rattle.tables.specs.Scale.{ManyTimes, NoPlace}
 use Rattle.polynomials.proofs.Meaning.{size_is}
-use Rattle.tables.proofs.Sizes.{row_inside, of_rows, of_past}
-use Rattle.tables.proofs.Evenly.{put_inside, put_same, put_here}
+use Rattle.tables.proofs.Sizes.{part_row, row_inside, of_rows, of_past}
+use Rattle.tables.proofs.Evenly.{part_length, put_inside, put_same, put_here}
 
 -- a row has a size
 sized_below : (K : Arithmetic) (l : List ℕ) (n : ℕ) → n ≤ length l → ((i : ℕ) → n ≤ i → i < length l → get_or l i 0 ≡ K.zero) → (m : ℕ) × Sized K l m
@@ -64,8 +65,14 @@ module _ {K : Arithmetic} (laws : Laws K) (w : ℕ) (t g : List ℕ) where
   no_place : (i m n : ℕ) → size (elements laws) (polynomial laws g) ≡ m → size (elements laws) ((polynomial_xy laws w t).0 i) ≡ n → 0 < m → 0 < n → w + 1 < m + n → NoPlace laws w t g
   no_place i m n e f pm pn over = record { at = i; by = omega arith; row = omega arith; over = omega arith; large = large i (omega arith) (omega arith) (omega arith) }
 
-module _ (K : Arithmetic) (w : ℕ) (t g p : List ℕ) (i s k : ℕ) (held y : List ℕ) (at : s ≡ w * i) (fits : s + w ≤ length p) (long : length y ≡ w) (u : Scaled K w t g p i) where
-  pub scaled_more : Multiplied K g (cut_row w t i) held y true → Scaled K w t g (put_mid s k p y) (i + 1)
+module _ (K : Arithmetic) (w : ℕ) (t g p : List ℕ) (i s k : ℕ) (y : List ℕ) (at : s ≡ w * i) (fits : s + w ≤ length p) (kept : length y ≡ length (take (s + w - s) (drop s p))) (u : Scaled K w t g p i) where
+  abbrev held : List ℕ
+  held = take (s + w - s) (drop s p)
+
+  long : length y ≡ w
+  long = kept ∙ part_length w s p fits
+
+  pub scaled_more : Multiplied K g (cut_row w t i) held y (Ok tt) → Scaled K w t g (put_mid s k p y) (i + 1)
   scaled_more d = record {
     inside = λ ht hg. put_inside w i s k p y at fits long K (u.inside ht hg) (d hg (row_inside K w t i ht)).0;
     is = λ lw ht hg j lt. each lw ht hg j (cases_lt j i) lt;
@@ -78,17 +85,18 @@ module _ (K : Arithmetic) (w : ℕ) (t g p : List ℕ) (i s k : ℕ) (held y : L
           let here : polynomial lw (cut_row w (put_mid s k p y) i) ≡ (polynomials lw).mul (polynomial lw g) (polynomial lw (cut_row w t i)) = ap (polynomial lw) (put_here w i s k p y at fits long) ∙ (d hg (row_inside K w t i ht)).1 lw in
           subst (λ (j : ℕ). polynomial lw (cut_row w (put_mid s k p y) j) ≡ (polynomials lw).mul (polynomial lw g) (polynomial lw (cut_row w t j))) e here
 
-  pub scaled_refused : held ≡ cut_row w p i → length held ≡ w → Multiplied K g (cut_row w t i) held y false → ManyTimes K w t g (put_mid s k p y) false
-  scaled_refused was wide (kept, none) ht hg =
+  pub scaled_refused : (e : NoRoom) → Multiplied K g (cut_row w t i) held y (Err e) → ManyTimes K w t g (put_mid s k p y) (Err e)
+  scaled_refused e (same, none) ht hg =
       let hp = u.inside ht hg in
+      let wide = part_length w s p fits in
       let (m, sm) = sized_any K g in
       let (n, sn) = sized_any K (cut_row w t i) in
       let (pm, pn, over) = none m n sm sn in (
-        put_inside w i s k p y at fits long K hp (subst (λ (l : List ℕ). Inside K l) (sym (kept ∙ was)) (row_inside K w p i hp)),
+        put_inside w i s k p y at fits long K hp (subst (λ (l : List ℕ). Inside K l) (sym (same ∙ part_row w i s p at)) (row_inside K w p i hp)),
         λ lw. no_place lw w t g i m n (size_is lw g m hg sm) (ap (size (elements lw)) (of_rows lw w t i) ∙ size_is lw (cut_row w t i) n (row_inside K w t i ht) sn) pm pn (omega arith),
       )
 
-pub scaled_all : (K : Arithmetic) (w : ℕ) (t g p : List ℕ) (i : ℕ) → length t ≡ 16 * w → length p ≡ length t → i ≡ 16 → Scaled K w t g p i → ManyTimes K w t g p true
+pub scaled_all : (K : Arithmetic) (w : ℕ) (t g p : List ℕ) (i : ℕ) → length t ≡ 16 * w → length p ≡ length t → i ≡ 16 → Scaled K w t g p i → ManyTimes K w t g p (Ok tt)
 scaled_all K w t g p i long along e u ht hg = (u.inside ht hg, λ lw. same (polynomials lw) (poly_discrete (elements lw) (element_discrete K)) (fun_ext λ j. row lw j (cases_lt j 16) ∙ sym (coef_scale (polynomials lw) (poly_discrete (elements lw) (element_discrete K)) (polynomial lw g) (polynomial_xy lw w t) j)))
   where
     row : (lw : Laws K) (j : ℕ) → (j < 16) ⊎ (16 ≤ j) → (polynomial_xy lw w p).0 j ≡ (polynomials lw).mul (polynomial lw g) ((polynomial_xy lw w t).0 j)

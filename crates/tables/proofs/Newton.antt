@@ -1,5 +1,5 @@
 -- Newton's interpolation: with each point one more value of every row is right.
-use Rattle.std.proofs.Common.{◌≡◌, ℕ, suc, ◌+◌, ◌*◌, ◌<◌, ◌≤◌, true, ◌≢◌, ◌⊎◌, List, length, get_or, take, drop, set, Ok, Err, sym, ap, ◌∙◌, subst, inl, inr, arith, length-set, get_or-set_other, get_or-set_same}
+use Rattle.std.proofs.Common.{◌≡◌, ℕ, suc, ◌+◌, ◌*◌, ◌<◌, ◌≤◌, true, ◌≢◌, ◌⊎◌, List, length, get_or, set, Ok, Err, sym, ap, ◌∙◌, subst, inl, inr, arith, length-set, get_or-set_other, get_or-set_same}
 use Rattle.std.proofs.lemmas.Bool.{cases_eq}
 use Rattle.coefficients.specs.Arithmetic.{Arithmetic, Laws, IsField}
 use Rattle.coefficients.specs.declared.kind.ReciprocalFault.{ReciprocalFault}
@@ -94,8 +94,8 @@ module _ {K : Arithmetic} (laws : Laws K) (ps vs : List ℕ) where
           cut_row_code 32 t i j (omega arith) ∙ zt (32 * i + j) (omega arith)
 
   module _ (few : length ps ≤ 31) (each : length vs ≡ 16 * length ps) where
-    pub joined_more : (m m' t t' : List ℕ) (k w : ℕ) → k < length ps → length m' ≡ 32 → w ≡ 16 → Correction K m (get_or ps k 0) (take w (drop (16 * k) vs)) t t' (Ok tt) → Grows K m (get_or ps k 0) m' → JoinedTo K ps vs m t k → JoinedTo K ps vs m' t' (k + 1)
-    joined_more m m' t t' k w lt lm width step grow h = record {
+    pub joined_more : (m m' t t' : List ℕ) (k : ℕ) → k < length ps → length m' ≡ 32 → Correction K m (get_or ps k 0) (cut_row 16 vs k) t t' (Ok tt) → Grows K m (get_or ps k 0) m' → JoinedTo K ps vs m t k → JoinedTo K ps vs m' t' (k + 1)
+    joined_more m m' t t' k lt lm row grow h = record {
       long = lm;
       inside_m = λ hp. (grow (h.inside_m hp) (hp k lt)).0;
       inside_t = λ hp hv. (told hp hv).0;
@@ -103,9 +103,6 @@ module _ {K : Arithmetic} (laws : Laws K) (ps vs : List ℕ) where
       rows = λ hp hv lw i l. meets_more lw ps vs k i m (cut_row 32 t i) (cut_row 32 t' i) _ (h.master hp lw) ((told hp hv).1 lw i l) (cut_row_code 16 vs k i l) (h.rows hp hv lw i l);
     }
       where
-        row : Correction K m (get_or ps k 0) (cut_row 16 vs k) t t' (Ok tt)
-        row = subst (λ (n : ℕ). Correction K m (get_or ps k 0) (take n (drop (16 * k) vs)) t t' (Ok tt)) width step
-
         told : Inside K ps → Inside K vs → Inside K t' × ((laws : Laws K) (i : ℕ) → i < 16 → Corrected laws m (cut_row 32 t i) (get_or ps k 0) (get_or (cut_row 16 vs k) i 0) (cut_row 32 t' i))
         told hp hv = row (h.inside_m hp) (hp k lt) (cut_row_inside K 16 vs k hv) (h.inside_t hp hv)
 
@@ -126,8 +123,8 @@ module _ {K : Arithmetic} (laws : Laws K) (ps vs : List ℕ) where
     )
 
     -- no reciprocal: over a field the points are not different
-    pub joined_refused : (m t t' : List ℕ) (k w : ℕ) (e : ReciprocalFault) → k < length ps → Correction K m (get_or ps k 0) (take w (drop (16 * k) vs)) t t' (Err e) → JoinedTo K ps vs m t k → Joining K ps vs t' (Err e)
-    joined_refused m t t' k w e lt (same, told) h hp hv =
+    pub joined_refused : (m t t' : List ℕ) (k : ℕ) (e : ReciprocalFault) → k < length ps → Correction K m (get_or ps k 0) (cut_row 16 vs k) t t' (Err e) → JoinedTo K ps vs m t k → Joining K ps vs t' (Err e)
+    joined_refused m t t' k e lt (same, told) h hp hv =
         let (c, is, inside, none, value) = told (h.inside_m hp) (hp k lt) in
         (subst (λ (l : List ℕ). Inside K l) (sym same) (h.inside_t hp hv), (c, is, inside, none, λ only d. let (r, _, p) = only c inside (nonzero only d c (value laws)) in none r p))
       where

@@ -1,5 +1,5 @@
 -- Over a field: what a width, or a content and what is left without it, is in the words of the ring of elements.
-use Rattle.std.proofs.Common.{◌≡◌, ℕ, refl}
+use Rattle.std.proofs.Common.{◌≡◌, refl}
 use Rattle.coefficients.specs.Arithmetic.{Arithmetic, Laws, IsField}
 use Rattle.algebra.specs.Lead.{Monic}
 use Rattle.algebra.specs.Polynomial.{Poly, poly_discrete, size}

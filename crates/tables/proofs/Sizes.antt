@@ -1,5 +1,5 @@
 -- Rows of a table as coefficients of x^i, and the sizes in x and in y.
-use Rattle.std.proofs.Common.{◌≡◌, ℕ, zero, suc, ◌+◌, ◌-◌, ◌*◌, ◌<◌, ◌≤◌, ◌⊎◌, List, [], length, take, drop, sym, refl, ap, ◌∙◌, subst, ap₂, inl, inr, mul_comm, mul-le-mul_left, arith, length-drop, length-take, get_or-drop, get_or-take}
+use Rattle.std.proofs.Common.{◌≡◌, ℕ, zero, suc, ◌+◌, ◌-◌, ◌*◌, ◌<◌, ◌≤◌, ◌⊎◌, max, List, [], length, take, drop, sym, refl, ap, ◌∙◌, subst, ap₂, inl, inr, mul_comm, mul-le-mul_left, arith, length-drop, length-take, get_or-drop, get_or-take}
 use Rattle.std.proofs.lemmas.List.{drop_all}
 use Rattle.std.proofs.lemmas.Bool.{cases_lt}
 use Rattle.coefficients.specs.Arithmetic.{Arithmetic, Laws}
@@ -89,25 +89,23 @@ module _ (K : Arithmetic) (w : ℕ) (t : List ℕ) where
   pub largest_none : Largest K w t 0 0
   largest_none = record { within = omega arith; sizes = λ k lt. absurd (omega arith); some = λ lt. absurd (omega arith) }
 
-  pub largest_more : (i n m x : ℕ) → Largest K w t i n → Sized K (cut_row w t i) m → ((n < m) × (x ≡ m)) ⊎ ((m ≤ n) × (x ≡ n)) → Largest K w t (i + 1) x
-  largest_more i n m x h s (inl (lt, e)) = record {
-    within = let a = s.within in let b = row_length w t i in omega arith;
+  pub largest_more : (i n m x : ℕ) → Largest K w t i n → Sized K (cut_row w t i) m → x ≡ max n m → Largest K w t (i + 1) x
+  largest_more i n m x h s e = record {
+    within = let a = h.within in let b = s.within in let c = row_length w t i in omega arith;
     sizes = λ k l. go k (cases_lt k i) l;
-    some = λ pos. (i, omega arith, subst (λ (y : ℕ). Sized K (cut_row w t i) y) (sym e) s);
+    some = λ pos. one (cases_lt n m) pos;
   }
     where
       go : (k : ℕ) → (k < i) ⊎ (i ≤ k) → k < i + 1 → (y : ℕ) × Sized K (cut_row w t k) y × (y ≤ x)
       go k (inl l) b = let (y, z, le) = h.sizes k l in (y, z, omega arith)
       go k (inr l) b = let z : i ≡ k = omega arith in (m, subst (λ (k : ℕ). Sized K (cut_row w t k) m) z s, omega arith)
-  largest_more i n m x h s (inr (le, e)) = record {
-    within = let a = h.within in omega arith;
-    sizes = λ k l. go k (cases_lt k i) l;
-    some = λ pos. let (k, l, z) = h.some (omega arith) in (k, omega arith, subst (λ (y : ℕ). Sized K (cut_row w t k) y) (sym e) z);
-  }
-    where
-      go : (k : ℕ) → (k < i) ⊎ (i ≤ k) → k < i + 1 → (y : ℕ) × Sized K (cut_row w t k) y × (y ≤ x)
-      go k (inl l) b = let (y, z, le) = h.sizes k l in (y, z, omega arith)
-      go k (inr l) b = let z : i ≡ k = omega arith in (m, subst (λ (k : ℕ). Sized K (cut_row w t k) m) z s, omega arith)
+
+      one : (n < m) ⊎ (m ≤ n) → 0 < x → (k : ℕ) × (k < i + 1) × Sized K (cut_row w t k) x
+      one (inl lt) pos = let z : m ≡ x = omega arith in (i, omega arith, subst (λ (y : ℕ). Sized K (cut_row w t i) y) z s)
+      one (inr le) pos =
+          let z : n ≡ x = omega arith in
+          let (k, l, y) = h.some (omega arith) in
+          (k, omega arith, subst (λ (y : ℕ). Sized K (cut_row w t k) y) z y)
 
   pub largest_all : (i n : ℕ) → i ≡ 16 → Largest K w t i n → SizedY K w t n
   largest_all i n e h = record { within = h.within; sizes = λ k lt. h.sizes k (omega arith); some = λ pos. let (k, l, s) = h.some pos in (k, omega arith, s) }

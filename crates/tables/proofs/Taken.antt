@@ -1,5 +1,5 @@
 -- A table less x^s times a multiple of another, by one step over all codes.
-use Rattle.std.proofs.Common.{◌≡◌, ℕ, suc, ◌+◌, ◌-◌, ◌*◌, ◌<◌, ◌≤◌, true, false, ◌⊎◌, List, length, get_or, drop, sym, refl, ap, ◌∙◌, inl, inr, mul_comm, mul-le-mul_left, mul-suc, mul-add, arith, length-drop, length-take}
+use Rattle.std.proofs.Common.{◌≡◌, ℕ, suc, ◌+◌, ◌-◌, ◌*◌, ◌<◌, ◌≤◌, true, ◌⊎◌, List, Ok, Err, length, get_or, drop, sym, refl, ap, ◌∙◌, inl, inr, mul_comm, mul-le-mul_left, mul-suc, mul-add, arith, length-drop, length-take}
 use mathlib.Core.Path.{fun_ext}
 use Rattle.std.proofs.lemmas.List.{get_or_past}
 use Rattle.std.proofs.lemmas.Bool.{cases_lt}
@@ -11,6 +11,7 @@ use Rattle.algebra.proofs.Degrees.{coef_scale}
 use Rattle.polynomials.specs.Elements.{element_same, element_discrete, elements, polynomial, polynomials, polynomial_xy}
 use Rattle.polynomials.specs.Rows.{Inside, cut_row}
 use Rattle.polynomials.specs.Steps.{Lessened}
+use Rattle.polynomials.specs.declared.product.NoRoom.{NoRoom}
 use Rattle.tables.specs.Degrees.{SizedX}
 use Rattle.tables.specs.Scale.{ManyTimes}
 use Rattle.tables.specs.Exact.{LessMultiple, Taking}
@@ -135,8 +136,8 @@ module _ (K : Arithmetic) (w : ℕ) (t b : List ℕ) (s n : ℕ) (f p t' : List 
     less_multiple : LessMultiple laws w t b s (polynomial laws f) t'
     less_multiple = record { under = under; over = over }
 
-  pub taken : Laws K → ManyTimes K w b f p true → Taking K w t b s f t' true
+  pub taken : Laws K → ManyTimes K w b f p (Ok tt) → Taking K w t b s f t' (Ok tt)
   taken laws u ht hb hf = let told = u hb hf in (taken_inside laws ht, λ lw. less_multiple lw ht told.0 (λ k. sym (of_rows lw w p k) ∙ ap (λ (A : Poly (polynomials lw)). A.0 k) (told.1 lw) ∙ coef_scale (polynomials lw) (poly_discrete (elements lw) (element_discrete K)) (polynomial lw f) (polynomial_xy lw w b) k))
 
-pub not_taken : (K : Arithmetic) (w : ℕ) (t b : List ℕ) (s : ℕ) (f p : List ℕ) → ManyTimes K w b f p false → Taking K w t b s f t false
-not_taken K w t b s f p u = (refl, λ hb hf lw. let n = (u hb hf).1 lw in record { at = n.at; factor = n.by; row = n.row; over = n.over })
+pub not_taken : (K : Arithmetic) (w : ℕ) (t b : List ℕ) (s : ℕ) (f p : List ℕ) (e : NoRoom) → ManyTimes K w b f p (Err e) → Taking K w t b s f t (Err e)
+not_taken K w t b s f p e u = (refl, λ hb hf lw. let n = (u hb hf).1 lw in record { at = n.at; factor = n.by; row = n.row; over = n.over })

@@ -1,5 +1,5 @@
 -- Exact division of 16 rows of `width` codes by 16 others, by the polynomials in x and y that they mean.
-use Rattle.std.specs.Prelude.{◌≡◌, ℕ, ◌+◌, ◌-◌, ◌<◌, Bool, true, false, ◌⊎◌, List, Ok, Err, Result, ◌≢◌}
+use Rattle.std.specs.Prelude.{◌≡◌, ℕ, ◌+◌, ◌-◌, ◌<◌, ◌⊎◌, List, Ok, Err, Result, ◌≢◌}
 use Rattle.coefficients.specs.Arithmetic.{Arithmetic, Laws, IsField}
 use Rattle.coefficients.specs.declared.kind.ReciprocalFault.TheVariants.{NoReciprocal}
 use Rattle.algebra.specs.Divisors.{Divides}
@@ -8,6 +8,7 @@ use Rattle.algebra.specs.Change.{poly₂}
 use Rattle.polynomials.specs.Elements.{element_discrete, elements, polynomial, polynomials, polynomial_xy}
 use Rattle.polynomials.specs.Rows.{Inside}
 use Rattle.polynomials.specs.Steps.{Stuck}
+use Rattle.polynomials.specs.declared.product.NoRoom.{NoRoom as RowNoRoom}
 use Rattle.tables.specs.declared.faults.DivisionFault.{DivisionFault}
 use Rattle.tables.specs.declared.faults.DivisionFault.TheVariants.{Reciprocal, Uneven}
 use Rattle.tables.specs.Degrees.{SizedX}
@@ -59,9 +60,9 @@ module _ {K : Arithmetic} (laws : Laws K) where
     pub uneven : IsField K → Divides (poly₂ (elements laws) (element_discrete K)) (polynomial_xy laws w b) (polynomial_xy laws w t) → ⊥
 
 -- `take_multiple`: t becomes t', or stands where the product has no place
-abbrev pub Taking : Arithmetic → (w : ℕ) (t b : List ℕ) (s : ℕ) (f t' : List ℕ) → Bool → Type 0
-Taking K w t b s f t' true = Inside K t → Inside K b → Inside K f → Inside K t' × ((laws : Laws K) → LessMultiple laws w t b s (polynomial laws f) t')
-Taking K w t b s f t' false = (t' ≡ t) × (Inside K b → Inside K f → (laws : Laws K) → NoRoom laws w b (polynomial laws f))
+abbrev pub Taking : Arithmetic → (w : ℕ) (t b : List ℕ) (s : ℕ) (f t' : List ℕ) → Result (Unit {0}) RowNoRoom → Type 0
+Taking K w t b s f t' (Ok u) = Inside K t → Inside K b → Inside K f → Inside K t' × ((laws : Laws K) → LessMultiple laws w t b s (polynomial laws f) t')
+Taking K w t b s f t' (Err e) = (t' ≡ t) × (Inside K b → Inside K f → (laws : Laws K) → NoRoom laws w b (polynomial laws f))
 
 -- `cut_top`: one step. The fault names a leading coefficient that has no reciprocal, in a kind that is no field
 abbrev pub CutTop : Arithmetic → (w : ℕ) (t b : List ℕ) (s n : ℕ) (held t' q : List ℕ) → Result (Unit {0}) DivisionFault → Type 0

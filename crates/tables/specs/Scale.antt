@@ -1,5 +1,5 @@
 -- 16 rows of `width` codes times a polynomial in y, and times a constant.
-use Rattle.std.specs.Prelude.{◌≡◌, ℕ, ◌+◌, ◌<◌, Bool, true, false, List, Ok, Err, Result}
+use Rattle.std.specs.Prelude.{◌≡◌, ℕ, ◌+◌, ◌<◌, List, Ok, Err, Result}
 use Rattle.coefficients.specs.Arithmetic.{Arithmetic, Laws, IsField}
 use Rattle.coefficients.specs.declared.kind.ReciprocalFault.{ReciprocalFault}
 use Rattle.coefficients.specs.declared.kind.ReciprocalFault.TheVariants.{NoReciprocal}
@@ -10,6 +10,7 @@ use Rattle.algebra.specs.Change.{Poly₂, poly₂, number}
 use Rattle.polynomials.specs.Elements.{Element, element_discrete, elements, polynomial, polynomials, polynomial_xy}
 use Rattle.polynomials.specs.Rows.{Inside}
 use Rattle.polynomials.specs.Steps.{Stuck}
+use Rattle.polynomials.specs.declared.product.NoRoom.{NoRoom}
 use Rattle.tables.specs.Degrees.{SizedX, width_over}
 use Rattle.tables.specs.Content.{lifted}
 
@@ -41,9 +42,9 @@ module _ {K : Arithmetic} (laws : Laws K) where
     pub monic : ¬ (size (polynomials laws) (polynomial_xy laws w m) ≡ 0) → LeadIs (polynomials laws) (Monic (elements laws)) (polynomial_xy laws w m)
 
 -- `multiply_rows`: t times g, left in p, or some row for which there is no room
-abbrev pub ManyTimes : Arithmetic → (w : ℕ) (t g p : List ℕ) → Bool → Type 0
-ManyTimes K w t g p true = Inside K t → Inside K g → Inside K p × ((laws : Laws K) → Times laws w t g p)
-ManyTimes K w t g p false = Inside K t → Inside K g → Inside K p × ((laws : Laws K) → NoPlace laws w t g)
+abbrev pub ManyTimes : Arithmetic → (w : ℕ) (t g p : List ℕ) → Result (Unit {0}) NoRoom → Type 0
+ManyTimes K w t g p (Ok u) = Inside K t → Inside K g → Inside K p × ((laws : Laws K) → Times laws w t g p)
+ManyTimes K w t g p (Err e) = Inside K t → Inside K g → Inside K p × ((laws : Laws K) → NoPlace laws w t g)
 
 -- `make_monic_rows`: t becomes m, and the answer is the size in x of both. Only a kind that is no field wants a reciprocal, and then t stands
 abbrev pub MonicRows : Arithmetic → (w : ℕ) (t m : List ℕ) → Result ℕ ReciprocalFault → Type 0

@@ -1,8 +1,9 @@
 // Why a division of rows is refused.
 ghost use Rattle.std.specs.Prelude.{◌≡◌};
-ghost use Rattle.tables.specs.declared.faults.DivisionFault.TheVariants.{Reciprocal};
+ghost use Rattle.tables.specs.declared.faults.DivisionFault.TheVariants.{Reciprocal, Uneven};
 
 use coefficients::kind::ReciprocalFault;
+use polynomials::product::NoRoom;
 
 // Why a division that must come out even is refused.
 #[derive(Clone, Copy)]
@@ -18,5 +19,13 @@ impl From<ReciprocalFault> for DivisionFault {
 
     fn from(e: ReciprocalFault) -> DivisionFault {
         DivisionFault::Reciprocal(e)
+    }
+}
+
+impl From<NoRoom> for DivisionFault {
+    ghost from_gives = { λ _ r. r ≡ Uneven };
+
+    fn from(_e: NoRoom) -> DivisionFault {
+        DivisionFault::Uneven
     }
 }

@@ -1,5 +1,5 @@
 // Newton's interpolation, 16 rows at once: from values at different points to polynomials in y.
-ghost use Rattle.std.specs.Prelude.{◌≡◌, ℕ, ◌*◌, ◌≤◌, length};
+ghost use Rattle.std.specs.Prelude.{◌≡◌, ◌*◌, ◌≤◌, length};
 ghost use Rattle.tables.specs.Join.{Corrects, Correction, Grows, Joining};
 
 use coefficients::kind::{Coefficients, ReciprocalFault};
@@ -14,16 +14,18 @@ pub fn join<K: Coefficients>(
     rows: &[u64],
     joined: &mut [u64],
 ) -> Result<(), ReciprocalFault>
-    requires { (length points.now ≤ 31) × ((length rows.now ≡ 16 * length points.now) × (length joined.old ≡ 512)) }
+    requires points { length points.now ≤ 31 }
+    requires rows { length rows.now ≡ 16 * length points.now }
+    requires joined { length joined.old ≡ 512 }
     ensures { Joining (K.arithmetic kind.now) points.now rows.now joined.new result }
 {
     clear(kind, joined);
     // The product of y - α over the points so far.
     let mut master = [kind.zero(); 32];
     master[0] = kind.one();
-    for k in 0..points.len() {
-        correct(kind, &master, points[k], &rows[16 * k..16 * k + 16], joined)?;
-        grow(kind, &mut master, points[k]);
+    for (point, values) in points.iter().zip(rows.chunks_exact(16)) {
+        correct(kind, &master, *point, values, joined)?;
+        grow(kind, &mut master, *point);
     }
     Ok(())
 }
@@ -36,13 +38,16 @@ fn correct<K: Coefficients>(
     values: &[u64],
     joined: &mut [u64],
 ) -> Result<(), ReciprocalFault>
-    requires { (length master.now ≡ 32) × ((length values.now ≡ 16) × (length joined.old ≡ 512)) }
+    requires master { length master.now ≡ 32 }
+    requires values { length values.now ≡ 16 }
+    requires joined { length joined.old ≡ 512 }
     ensures { Correction (K.arithmetic kind.now) master.now point values.now joined.old joined.new result }
 {
     let inverse = kind.reciprocal(horner(kind, master, point))?;
-    for i in 0..16usize {
+    // Rows by number: after a loop over `chunks_exact_mut` a proof knows nothing of what was written.
+    for (i, value) in values.iter().enumerate() {
         let row = &mut joined[32 * i..32 * i + 32];
-        correct_row(kind, master, point, inverse, values[i], row);
+        correct_row(kind, master, point, inverse, *value, row);
     }
     Ok(())
 }
@@ -56,7 +61,8 @@ fn correct_row<K: Coefficients>(
     value: u64,
     row: &mut [u64],
 )
-    requires { (length master.now ≡ 32) × (length row.old ≡ 32) }
+    requires master { length master.now ≡ 32 }
+    requires row { length row.old ≡ 32 }
     ensures { Corrects (K.arithmetic kind.now) master.now point inverse value row.old row.new }
 {
     let excess = kind.sub(horner(kind, row, point), value);
@@ -68,9 +74,9 @@ fn grow<K: Coefficients>(kind: &K, master: &mut [u64], point: u64)
     ensures { Grows (K.arithmetic kind.now) master.old point master.new }
 {
     let mut below = kind.zero();
-    for j in 0..master.len() {
-        let code = master[j];
-        master[j] = kind.sub(below, kind.mul(point, code));
-        below = code;
+    for code in master.iter_mut() {
+        let held = *code;
+        *code = kind.sub(below, kind.mul(point, held));
+        below = held;
     }
 }

@@ -1,39 +1,36 @@
 // The leading coefficients in x of 16 rows of `width` codes.
-ghost use Rattle.std.specs.Prelude.{◌≡◌, ℕ, ◌*◌, ◌≤◌, length};
+ghost use Rattle.std.specs.Prelude.{◌≡◌, length};
 ghost use Rattle.tables.specs.Lead.{LeadRow, SharedLeads};
 
-use crate::degrees::{row_start, size_x};
+use crate::rows::Rows;
 use coefficients::kind::{Coefficients, ReciprocalFault};
 use polynomials::gcd::gcd_row;
 
-// Copies the last row that is not zero into `row`, or zeros where there is none.
-pub fn lead_row<K: Coefficients>(kind: &K, rows: &[u64], width: usize, row: &mut [u64])
-    requires { (length rows.now ≡ 16 * width) × ((width ≤ 32) × (length row.old ≡ width)) }
-    ensures { LeadRow (K.arithmetic kind.now) width rows.now row.new }
-{
-    let n = size_x(kind, rows, width);
-    let mut last: usize = 0;
-    if n > 0 {
-        last = n - 1;
+impl Rows<'_> {
+    // Copies the last row that is not zero into `row`, or zeros where there is none.
+    pub fn lead_row<K: Coefficients>(&self, kind: &K, row: &mut [u64])
+        requires { length row.old ≡ self.now.width }
+        ensures { LeadRow (K.arithmetic kind.now) self.now.width self.now.codes.now row.new }
+    {
+        let last = self.size_x(kind).saturating_sub(1);
+        row.copy_from_slice(self.row(last));
     }
-    let start = row_start(width, last);
-    row.copy_from_slice(&rows[start..start + width]);
 }
 
 // Leaves the monic greatest common divisor of the leading coefficients in `shared`, and answers its size.
 pub fn lead_gcd<K: Coefficients>(
     kind: &K,
-    a: &[u64],
-    b: &[u64],
-    width: usize,
+    a: &Rows<'_>,
+    b: &Rows<'_>,
     shared: &mut [u64],
 ) -> Result<usize, ReciprocalFault>
-    requires { (length a.now ≡ 16 * width) × ((length b.now ≡ 16 * width) × ((width ≤ 32) × (length shared.old ≡ width))) }
-    ensures { SharedLeads (K.arithmetic kind.now) width a.now b.now shared.new result }
+    requires width { b.now.width ≡ a.now.width }
+    requires shared { length shared.old ≡ a.now.width }
+    ensures { SharedLeads (K.arithmetic kind.now) a.now.width a.now.codes.now b.now.codes.now shared.new result }
 {
-    lead_row(kind, a, width, shared);
+    a.lead_row(kind, shared);
     let mut room = [0u64; 32];
-    let other = &mut room[..width];
-    lead_row(kind, b, width, other);
+    let other = &mut room[..b.width];
+    b.lead_row(kind, other);
     gcd_row(kind, shared, other)
 }

@@ -9,6 +9,7 @@ pub mod exact;
 pub mod faults;
 pub mod join;
 pub mod lead;
+pub mod rows;
 pub mod scale;
 #[cfg(test)]
 mod tests;

@@ -1,50 +1,50 @@
 // 16 rows of `width` codes times a polynomial in y, and times the constant that makes them monic.
-ghost use Rattle.std.specs.Prelude.{◌≡◌, ℕ, ◌*◌, ◌≤◌, length};
+ghost use Rattle.std.specs.Prelude.{◌≡◌, ◌*◌, ◌≤◌, length};
 ghost use Rattle.tables.specs.Scale.{ManyTimes, MonicRows};
 
-use crate::degrees::{row_start, size_x};
+use crate::rows::{Rows, row_start};
 use coefficients::kind::{Coefficients, ReciprocalFault};
 use polynomials::divide::lead_inverse;
-use polynomials::product::multiply_row;
+use polynomials::product::{NoRoom, multiply_row};
 use polynomials::rows::{clear, scale, size};
 
-// Writes each row times `by` into `product`. Answers whether there is room for all of them.
+// Writes each row times `by` into `product`, if there is room for all of them.
 pub fn multiply_rows<K: Coefficients>(
     kind: &K,
-    rows: &[u64],
-    width: usize,
+    rows: &Rows<'_>,
     by: &[u64],
     product: &mut [u64],
-) -> bool
-    requires { (length rows.now ≡ 16 * width) × ((width ≤ 32) × (length product.old ≡ length rows.now)) }
-    ensures { ManyTimes (K.arithmetic kind.now) width rows.now by.now product.new result }
+) -> Result<(), NoRoom>
+    requires { length product.old ≡ length rows.now.codes.now }
+    ensures { ManyTimes (K.arithmetic kind.now) rows.now.width rows.now.codes.now by.now product.new result }
 {
     clear(kind, product);
-    for i in 0..16usize {
-        let start = row_start(width, i);
-        let end = start + width;
-        if !multiply_row(kind, by, &rows[start..end], &mut product[start..end]) {
-            return false;
-        }
+    // Rows by number: chunks of width 0 are refused, and after a loop over `chunks_exact_mut` a proof knows nothing of what was written.
+    for i in 0..16 {
+        let start = row_start(rows.width, i);
+        let end = start + rows.width;
+        multiply_row(kind, by, rows.row(i), &mut product[start..end])?;
     }
-    true
+    Ok(())
 }
 
 // Makes the leading coefficient of the last row that is not zero one, and answers the size in x. Zero stays.
+// Takes codes and a width, since a view of rows cannot be written.
 pub fn make_monic_rows<K: Coefficients>(
     kind: &K,
     rows: &mut [u64],
     width: usize,
 ) -> Result<usize, ReciprocalFault>
-    requires { (length rows.old ≡ 16 * width) × (width ≤ 32) }
+    requires sixteen { length rows.old ≡ 16 * width }
+    requires narrow { width ≤ 32 }
     ensures { MonicRows (K.arithmetic kind.now) width rows.old rows.new result }
 {
-    let n = size_x(kind, rows, width);
+    let view = Rows::new(rows, width);
+    let n = view.size_x(kind);
     if n == 0 {
         return Ok(0);
     }
-    let start = row_start(width, n - 1);
-    let lead = &rows[start..start + width];
+    let lead = view.row(n - 1);
     let inverse = lead_inverse(kind, lead, size(kind, lead))?;
     scale(kind, rows, inverse);
     Ok(n)

@@ -1,6 +1,5 @@
 // Content on an example.
-use crate::content::*;
-use crate::degrees::*;
+use crate::rows::Rows;
 use coefficients::residues::*;
 use std::test::Fail;
 
@@ -17,9 +16,10 @@ fn content_splits_off(rt: HostRuntime) -> Result<(), Fail> {
     rows[3] = 1;
     let mut shared = [0; 2];
     let mut part = [0; 32];
-    assert_eq!(rt; size_x(&k, &rows, 2), 2);
-    assert_eq!(rt; size_y(&k, &rows, 2), 2);
-    match take_content(&k, &rows, 2, &mut shared, &mut part) {
+    let whole = Rows::new(&rows, 2);
+    assert_eq!(rt; whole.size_x(&k), 2);
+    assert_eq!(rt; whole.size_y(&k), 2);
+    match whole.take_content(&k, &mut shared, &mut part) {
         Ok(n) => assert_eq!(rt; n, 2),
         Err(_) => return Err(Fail::new("a content is refused")),
     }
@@ -27,6 +27,6 @@ fn content_splits_off(rt: HostRuntime) -> Result<(), Fail> {
     assert_eq!(rt; shared[1], 1);
     assert_eq!(rt; part[0], 2);
     assert_eq!(rt; part[2], 1);
-    assert_eq!(rt; size_y(&k, &part, 2), 1);
+    assert_eq!(rt; Rows::new(&part, 2).size_y(&k), 1);
     Ok(())
 }

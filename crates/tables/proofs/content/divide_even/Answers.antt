@@ -1,15 +1,8 @@
 use Rattle.std.proofs.Common.{ℕ, List, Ok, subst}
-use Rattle.std.proofs.lemmas.Result.{err_from_is_err_and}
 use Rattle.polynomials.specs.Steps.{Division}
 use Rattle.tables.proofs.Sizes.{sized_zero}
 use Rattle.tables.proofs.Evenly.{divisor_nonzero, even_is, uneven_is}
 use Rattle.tables.proofs.content.divide_even.Goals as goal
-
-pub returns-in_err-divide_row : goal.returns-in_err-divide_row
-returns-in_err-divide_row g c =
-    let p = err_from_is_err_and c.from_residual.result c.from_residual.ensures.1 in
-    let told = c.in_err-divide_row.ensures in
-    rw (p.1, p.2) (told.0, told.2)
 
 pub returns-then-size-eq0 : goal.returns-then-size-eq0
 returns-then-size-eq0 g c =

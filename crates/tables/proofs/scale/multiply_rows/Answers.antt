@@ -1,44 +1,19 @@
-use Rattle.std.proofs.Common.{◌≡◌, ℕ, ◌+◌, ◌-◌, ◌≤◌, true, false, List, length, take, drop, ◌∙◌, subst, arith}
-use Rattle.polynomials.specs.Product.{Multiplied}
-use Rattle.tables.proofs.Sizes.{part_row}
-use Rattle.tables.proofs.Evenly.{part_length}
-use Rattle.tables.proofs.Multiples.{scaled_none, scaled_more, scaled_refused, scaled_all}
+use Rattle.std.proofs.Common.{◌+◌, ◌≤◌, length, arith}
+use Rattle.std.proofs.lemmas.Result.{err_from_is_err_and}
+use Rattle.tables.proofs.Multiples.{scaled_more, scaled_refused, scaled_all}
 use Rattle.tables.proofs.scale.multiply_rows.Goals as goal
-
-pub loop-i-init : goal.loop-i-init
-loop-i-init g c = scaled_none (g.met.K.Coefficients.laws c.args.kind.now) c.args.width c.args.rows.now c.args.by.now c.clear.new.row (λ i lt. c.clear.ensures i (omega arith))
 
 pub loop-i-preserved : goal.loop-i-preserved
 loop-i-preserved g c =
-    let K = g.K.Coefficients.arithmetic c.args.kind.now in
-    let w = c.args.width in
-    let i = c.loop-i.i in
-    let s = c.row_start-start.result in
-    let t = c.args.rows.now in
-    let by = c.args.by.now in
-    let p = c.loop-i.product in
-    let y = c.multiply_row.new.product in
-    let held = take (s + w - s) (drop s p) in
-    let fits : s + w ≤ length p = omega arith in
-    let long : length y ≡ w = c.multiply_row.auto.product ∙ part_length w s p fits in
-    let told = subst (λ (l : List ℕ). Multiplied K by l held y true) (part_row w i s t c.row_start-start.ensures.place) c.if-not-multiply_row.ensures in
-    scaled_more K w t by p i s (s + w - s) held y c.row_start-start.ensures.place fits long c.loop-i.invariant told
+    let fits : c.row_start-start.result + c.args.rows.now.width ≤ length c.loop-i.product = omega arith in
+    scaled_more _ _ _ _ _ _ _ _ _ c.row_start-start.ensures.place fits c.multiply_row.auto.product c.loop-i.invariant (rw c.row.ensures.codes at c.in_ok-multiply_row.ensures)
 
-pub returns-then-not-multiply_row : goal.returns-then-not-multiply_row
-returns-then-not-multiply_row g c =
-    let K = g.K.Coefficients.arithmetic c.args.kind.now in
-    let w = c.args.width in
-    let i = c.loop-i.i in
-    let s = c.row_start-start.result in
-    let t = c.args.rows.now in
-    let by = c.args.by.now in
-    let p = c.loop-i.product in
-    let y = c.multiply_row.new.product in
-    let held = take (s + w - s) (drop s p) in
-    let fits : s + w ≤ length p = omega arith in
-    let long : length y ≡ w = c.multiply_row.auto.product ∙ part_length w s p fits in
-    let told = subst (λ (l : List ℕ). Multiplied K by l held y false) (part_row w i s t c.row_start-start.ensures.place) c.if-not-multiply_row.ensures in
-    scaled_refused K w t by p i s (s + w - s) held y c.row_start-start.ensures.place fits long c.loop-i.invariant (part_row w i s p c.row_start-start.ensures.place) (part_length w s p fits) told
+pub returns-in_err-multiply_row : goal.returns-in_err-multiply_row
+returns-in_err-multiply_row g c =
+    let fits : c.row_start-start.result + c.args.rows.now.width ≤ length c.loop-i.product = omega arith in
+    let r = err_from_is_err_and c.from_residual.result c.from_residual.ensures.1 in
+    rw r.1
+    (scaled_refused _ _ _ _ _ _ _ _ _ c.row_start-start.ensures.place fits c.multiply_row.auto.product c.loop-i.invariant c.in_err-multiply_row.field-0.0 (rw c.row.ensures.codes at c.in_err-multiply_row.ensures))
 
 pub returns : goal.returns
-returns g c = scaled_all (g.K.Coefficients.arithmetic c.args.kind.now) c.args.width c.args.rows.now c.args.by.now c.loop-i.product c.loop-i.i c.requires.0 (omega arith) (omega arith) c.loop-i.invariant
+returns g c = scaled_all _ _ _ _ _ _ c.args.rows.now.sixteen (omega arith) (omega arith) c.loop-i.invariant

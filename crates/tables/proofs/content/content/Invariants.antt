@@ -1,5 +1,0 @@
-use Rattle.tables.proofs.Contents.{Gathered}
-use Rattle.tables.proofs.content.content.Given as goal
-
-abbrev pub invariant-loop-i : goal.invariant-loop-i
-invariant-loop-i g l = Gathered (g.K.Coefficients.arithmetic l.kind) l.width l.rows l.content l.i l.n
