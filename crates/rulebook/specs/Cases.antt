@@ -17,7 +17,7 @@ use Rattle.polynomials.specs.Elements.{table}
 use Rattle.values.specs.Values.{lead_gcd}
 use Rattle.values.specs.Tables.{rows, table_of}
 use Rattle.values.specs.Meaning.{scalars}
-use Rattle.points.specs.Waiting.{supplied_from, counting_from, shifted}
+use Rattle.points.specs.Waiting.{counting_from, shifted}
 use Rattle.rulebook.specs.Pairs.{pair_of}
 use Rattle.rulebook.specs.Opening.{open_rule}
 use Rattle.rulebook.specs.Collecting.{Tables, collect_rule}
@@ -171,7 +171,7 @@ counting_by_offers = job with_content (offers (0 ∷ 1 ∷ 2 ∷ 3 ∷ 4 ∷ [])
 
 -- a supplied list, in which a point comes twice that is let go when a lower degree is seen
 abbrev pub supplied_list : Case
-supplied_list = job with_content (running (supplied_from (3 ∷ 3 ∷ 0 ∷ 1 ∷ 2 ∷ 4 ∷ []) 0) 6 ∷ []) (record {
+supplied_list = job with_content (running (3 ∷ 3 ∷ 0 ∷ 1 ∷ 2 ∷ 4 ∷ []) 6 ∷ []) (record {
   replies = to_run (record { drawn = 6; ending = Ok tt }) [] ∷ [];
   stage = settled;
   counts = record { offered = 6; foreign = 0; repeated = 1; vanishing = 0; high = 0; late = 0; dropped = 1; held = 4 };
