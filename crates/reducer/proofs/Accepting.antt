@@ -62,13 +62,13 @@ module _ {K : Arithmetic} (laws : Laws K) (a b : List ℕ) (j : Job) (α k : ℕ
       (found K (image k) passed n) (found_owed K (image k) passed n (not_blocked K k) (not_blocked_test K)) (refl, refl) (λ only. (field_image only, field only)) (λ only. five)
 
   -- a fault on the way makes the job void
-  pub void_offered : (j' : Job) (x : DivisionFault) (c : ℕ) (q : Refusal) → Faulty K x → c ≡ element_of x → q ≡ Refusal.NoField c Stage.Offer → state_of j' ≡ moved j (void q) j.ceiling j.level 0 j.counts.held → j'.standing ≡ Standing.Void q → Offered K a b s α (state_of j') (Err q) × Sound K a b j'
+  pub void_offered : (j' : Job) (x : DivisionFault) (q : Refusal) → Faulty K x → q ≡ Refusal.NoField (element_of x) Stage.Offer → state_of j' ≡ moved j (void q) j.ceiling j.level 0 j.counts.held → j'.standing ≡ Standing.Void q → Offered K a b s α (state_of j') (Err q) × Sound K a b j'
   unfolding found
-  void_offered j' x c q faulty is qe se st =
-      let lacks : Lacks K c = subst (Lacks K) (sym is) (faulty_lacks K x faulty) in (
+  void_offered j' x q faulty qe se st =
+      let c : ℕ = element_of x in (
         build a b s α (state_of j') (Err q) (λ pair. pair.at_point α ≡ blocked c)
             (λ pair el f. offer_stuck pair s α (ap stage_of standing) room (el α ∙ fresh.element) fresh.apart c f ∙ ap (λ (y : Refusal). (moved j (void y) j.ceiling j.level 0 j.counts.held, Err y)) (sym qe) ∙ ap (λ (t : State). (t, Err q)) (sym se))
-            (found K (blocked c) passed 0) (found_owed K (blocked c) passed 0 (λ y f. let same : c ≡ y = cc in subst (Lacks K) same lacks) (not_blocked_test K)) refl (λ only. absurd (faulty_field K x faulty only)) (λ only. absurd (faulty_field K x faulty only)),
+            (found K (blocked c) passed 0) (found_owed K (blocked c) passed 0 (λ y f. let same : c ≡ y = cc in subst (Lacks K) same (faulty_lacks K x faulty)) (not_blocked_test K)) refl (λ only. absurd (faulty_field K x faulty only)) (λ only. absurd (faulty_field K x faulty only)),
         sound_void K a b j' q st (λ only. absurd (faulty_field K x faulty only)),
       )
 
@@ -89,10 +89,10 @@ module _ {K : Arithmetic} (laws : Laws K) (a b : List ℕ) (j : Job) (α k : ℕ
         )
 
     -- a fault in reading off the answer
-    pub constant_void : k ≡ 0 → (j' : Job) (x : DivisionFault) (c : ℕ) (q : Refusal) → Free K j.workings (Err x) → c ≡ element_of x → q ≡ Refusal.NoField c Stage.Offer → state_of j' ≡ moved j (void q) j.ceiling j.level 0 j.counts.held → j'.standing ≡ Standing.Void q → Offered K a b s α (state_of j') (Err q) × Sound K a b j'
-    constant_void z j' x c q free is qe se st =
+    pub constant_void : k ≡ 0 → (j' : Job) (x : DivisionFault) (q : Refusal) → Free K j.workings (Err x) → q ≡ Refusal.NoField (element_of x) Stage.Offer → state_of j' ≡ moved j (void q) j.ceiling j.level 0 j.counts.held → j'.standing ≡ Standing.Void q → Offered K a b s α (state_of j') (Err q) × Sound K a b j'
+    constant_void z j' x q free qe se st =
         let can = openable laws a b g.opens in
-        void_offered j' x c q (free a b can.A_inside can.B_inside can.A_long can.B_long g.workings (free_of_x a b α k d l r z images)) is qe se st
+        void_offered j' x q (free a b can.A_inside can.B_inside can.A_long can.B_long g.workings (free_of_x a b α k d l r z images)) qe se st
 
     -- the point is held
     pub stays_held : ¬ (k ≡ 0) → ¬ (n + 1 ≡ j.workings.closing) → (ds' ls' rs' : List ℕ) → Holds K a b k (n + 1) (set j.points n α) ds' ls' rs' → (j' : Job) (answer : Answer) →

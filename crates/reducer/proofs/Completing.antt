@@ -1,5 +1,5 @@
 -- An offer that makes as many points as the closing number: what is joined, tested and answered.
-use Rattle.std.proofs.Common.{◌≡◌, ℕ, ◌+◌, ◌-◌, ◌*◌, ◌<◌, Bool, true, false, cond, ltb, List, [], ◌∷◌, ◌++◌, length, get_or, take, set, Ok, Err, Result, sym, refl, ap, ◌∙◌, subst, ap₂, arith, length-take}
+use Rattle.std.proofs.Common.{◌≡◌, ℕ, ◌+◌, ◌-◌, ◌*◌, ◌<◌, Bool, true, false, cond, ltb, List, [], ◌∷◌, ◌++◌, length, get_or, take, set, Some, None, Ok, Err, Result, sym, refl, ap, ◌∙◌, subst, ap₂, arith, length-take}
 use Rattle.coefficients.specs.Arithmetic.{Arithmetic, Laws, IsField}
 use Rattle.rules.specs.declared.answer.Answer.{Answer}
 use Rattle.rules.specs.declared.counts.Counts.{Counts}
@@ -14,7 +14,6 @@ use Rattle.tables.specs.declared.faults.DivisionFault.{DivisionFault}
 use Rattle.steps.specs.declared.prepare.Workings.{Workings}
 use Rattle.steps.specs.declared.look.ImageRows.{ImageRows}
 use Rattle.steps.specs.declared.answer.Reduction.{Reduction}
-use Rattle.steps.specs.declared.verdict.Verdict.TheVariants as Verdict
 use Rattle.steps.specs.Look.{ImagesOf}
 use Rattle.steps.specs.Prepare.{WorkingsOf}
 use Rattle.steps.specs.Answer.{ReductionOf}
@@ -81,7 +80,7 @@ module _ {K : Arithmetic} (laws : Laws K) (a b : List ℕ) (j : Job) (k : ℕ) (
     field_closing only = found_closing laws only a b t.gathers.opens j.workings t.gathers.workings
 
     -- the test is passed
-    pub passed_settled : (j' : Job) (answer : Answer) (reduction : Reduction) → Deciding K j.workings points (take (16 * n) j.divisors) (take (16 * n) j.lefts) (take (16 * n) j.rights) (Verdict.Passed reduction) →
+    pub passed_settled : (j' : Job) (answer : Answer) (reduction : Reduction) → Deciding K j.workings points (take (16 * n) j.divisors) (take (16 * n) j.lefts) (take (16 * n) j.rights) (Ok (Some reduction)) →
         state_of j' ≡ moved j settled j.ceiling k (j.counts.held - j.counts.held) n → j'.standing ≡ Standing.Settled → j'.reduction ≡ reduction → answer ≡ Answer.Settled k (j.counts.held - j.counts.held) → Offered K a b s α (state_of j') (Ok answer) × Sound K a b j'
     passed_settled j' answer reduction decided se st re ae =
         let (reduced, tested) = decided a b k known in
@@ -96,7 +95,7 @@ module _ {K : Arithmetic} (laws : Laws K) (a b : List ℕ) (j : Job) (k : ℕ) (
     not_blocked_failed c e = let z : ◌≡◌ {A = ℕ} 0 1 = cc in absurd (omega arith)
 
     -- the test is failed
-    pub failed_overturned : (j' : Job) (answer : Answer) → Deciding K j.workings points (take (16 * n) j.divisors) (take (16 * n) j.lefts) (take (16 * n) j.rights) Verdict.Failed →
+    pub failed_overturned : (j' : Job) (answer : Answer) → Deciding K j.workings points (take (16 * n) j.divisors) (take (16 * n) j.lefts) (take (16 * n) j.rights) (Ok None) →
         state_of j' ≡ moved j gathering k k n 0 → j'.standing ≡ Standing.Gathering → j'.counts.held ≡ 0 → j'.workings ≡ j.workings → answer ≡ Answer.Overturned k n → Offered K a b s α (state_of j') (Ok answer) × Sound K a b j'
     failed_overturned j' answer decided se st he we ae =
         let tested = decided a b k known in
@@ -108,12 +107,12 @@ module _ {K : Arithmetic} (laws : Laws K) (a b : List ℕ) (j : Job) (k : ℕ) (
         )
 
     -- a fault on the way
-    pub blocked_void : (j' : Job) (x : DivisionFault) (c : ℕ) (q : Refusal) → Deciding K j.workings points (take (16 * n) j.divisors) (take (16 * n) j.lefts) (take (16 * n) j.rights) (Verdict.Blocked x) → c ≡ element_of x → q ≡ Refusal.NoField c Stage.Offer →
+    pub blocked_void : (j' : Job) (x : DivisionFault) (q : Refusal) → Deciding K j.workings points (take (16 * n) j.divisors) (take (16 * n) j.lefts) (take (16 * n) j.rights) (Err x) → q ≡ Refusal.NoField (element_of x) Stage.Offer →
         state_of j' ≡ moved j (void q) j.ceiling j.level 0 j.counts.held → j'.standing ≡ Standing.Void q → Offered K a b s α (state_of j') (Err q) × Sound K a b j'
-    blocked_void j' x c q decided is qe se st =
+    blocked_void j' x q decided qe se st =
         let faulty = decided a b k known in
-        let lacks : Lacks K c = subst (Lacks K) (sym is) (faulty_lacks K x faulty) in (
-          tested_offered laws a b j α k _ _ _ t.standing room t.gathers t.fresh t.low last (blocked_test c) j.workings.closing t.some number (λ y f. let same : c ≡ y = cc in subst (Lacks K) same lacks)
+        let c : ℕ = element_of x in (
+          tested_offered laws a b j α k _ _ _ t.standing room t.gathers t.fresh t.low last (blocked_test c) j.workings.closing t.some number (λ y f. let same : c ≡ y = cc in subst (Lacks K) same (faulty_lacks K x faulty))
               (λ only. absurd (faulty_field K x faulty only)) (state_of j') (Err q)
               (ap (λ (y : Refusal). (moved j (void y) j.ceiling j.level 0 j.counts.held, Err y)) (sym qe) ∙ ap (λ (y : State). (y, Err q)) (sym se)) (λ only. absurd (faulty_field K x faulty only)),
           sound_void K a b j' q st (λ only. absurd (faulty_field K x faulty only)),

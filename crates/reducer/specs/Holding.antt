@@ -1,5 +1,5 @@
 -- What an offered point is found to be, and what comes of one that can be held.
-use Rattle.std.specs.Prelude.{◌≡◌, ℕ, ◌+◌, ◌<◌, ◌≤◌, true, false, cond, List, take, Result, nat_lt, slice_index}
+use Rattle.std.specs.Prelude.{◌≡◌, ℕ, ◌+◌, ◌<◌, ◌≤◌, true, false, cond, List, take, Some, None, Ok, Err, Result, nat_lt, slice_index}
 use Rattle.coefficients.specs.Arithmetic.{Arithmetic}
 use Rattle.rules.specs.declared.answer.Answer.{Answer}
 use Rattle.rules.specs.declared.refusal.Refusal.{Refusal}
@@ -7,14 +7,13 @@ use Rattle.rules.specs.Job.{limit, Stage, State}
 use Rattle.rules.specs.Offer.{member, too_high, raised}
 use Rattle.tables.specs.declared.faults.DivisionFault.{DivisionFault}
 use Rattle.steps.specs.declared.look.ImageRows.{ImageRows}
-use Rattle.steps.specs.declared.look.Finding.TheVariants as Finding
 use Rattle.steps.specs.Look.{ImagesOf, Looking}
 use Rattle.reducer.specs.declared.job.Job.{Job}
 use Rattle.reducer.specs.declared.standing.Standing.TheVariants as Standing
 use Rattle.reducer.specs.declared.offering.Phase.{Phase}
 use Rattle.reducer.specs.declared.offering.Class.{Class}
 use Rattle.reducer.specs.State.{tally_of, state_of}
-use Rattle.reducer.specs.Sound.{Holds, Gathers, Sound, element_of}
+use Rattle.reducer.specs.Sound.{Holds, Gathers, Sound}
 use Rattle.reducer.specs.Promises.{Offered}
 
 -- `phase_of`
@@ -33,10 +32,10 @@ pub record Fresh (K : Arithmetic) (j : Job) (α : ℕ) : Type 0 where
 abbrev pub Classed : Arithmetic → Job → (α : ℕ) → Class → Type 0
 Classed K j α Class.Foreign = K.element α ≡ false
 Classed K j α Class.Repeated = (K.element α ≡ true) × (member α (state_of j).held ≡ true)
-Classed K j α Class.Vanishing = Fresh K j α × Looking K j.workings α Finding.Vanishing
-Classed K j α (Class.High k) = Fresh K j α × (too_high (state_of j) k ≡ true) × ((rows : ImageRows) × (rows.degree ≡ k) × Looking K j.workings α (Finding.Image rows))
-Classed K j α (Class.Fitting rows) = Fresh K j α × (too_high (state_of j) rows.degree ≡ false) × Looking K j.workings α (Finding.Image rows)
-Classed K j α (Class.Stuck c) = Fresh K j α × ((e : DivisionFault) × (c ≡ element_of e) × Looking K j.workings α (Finding.Blocked e))
+Classed K j α Class.Vanishing = Fresh K j α × Looking K j.workings α (Ok None)
+Classed K j α (Class.High k) = Fresh K j α × (too_high (state_of j) k ≡ true) × ((rows : ImageRows) × (rows.degree ≡ k) × Looking K j.workings α (Ok (Some rows)))
+Classed K j α (Class.Fitting rows) = Fresh K j α × (too_high (state_of j) rows.degree ≡ false) × Looking K j.workings α (Ok (Some rows))
+Classed K j α (Class.Stuck e) = Fresh K j α × Looking K j.workings α (Err e)
 
 -- the workings, points and images of the job stand
 pub record SameRows (j j' : Job) : Type 0 where

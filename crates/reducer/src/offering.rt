@@ -7,7 +7,7 @@ ghost use Rattle.rules.specs.declared.refusal.Stage.TheVariants as At;
 ghost use Rattle.rules.specs.declared.answer.Answer.TheVariants as Answered;
 ghost use Rattle.reducer.specs.declared.standing.Standing.TheVariants as Stands;
 ghost use Rattle.reducer.specs.State.{state_of, tallied};
-ghost use Rattle.reducer.specs.Sound.{Sound};
+ghost use Rattle.reducer.specs.Sound.{Sound, element_of};
 ghost use Rattle.reducer.specs.Holding.{Phased, Classed, SameRows, Kept, moved, Fitting, Promised, Complete};
 
 use crate::counting::{Tallied, accept, tally};
@@ -19,8 +19,9 @@ use coefficients::kind::Coefficients;
 use rules::answer::Answer;
 use rules::refusal::{Refusal, Stage};
 use steps::answer::{Reduction, reduce_free};
-use steps::look::{Finding, ImageRows, look};
-use steps::verdict::{Verdict, decide};
+use steps::look::{ImageRows, look};
+use steps::verdict::decide;
+use tables::faults::DivisionFault;
 
 // What a job is when a point is offered.
 #[derive(Clone, Copy)]
@@ -41,8 +42,8 @@ pub enum Class {
     High(usize),
     // It can be held.
     Fitting(ImageRows),
-    // An element without a reciprocal stood in the way, or 0.
-    Stuck(u64),
+    // A fault stood in the way, in a kind that is no field.
+    Stuck(DivisionFault),
 }
 
 // No job takes more than 1,048,575 offers.
@@ -74,15 +75,10 @@ fn class_of<K: Coefficients>(kind: &K, job: &Job, point: u64) -> Class
         return Class::Repeated;
     }
     match look(kind, &job.workings, point) {
-        Finding::Vanishing => Class::Vanishing,
-        Finding::Image(rows) => {
-            if is_high(job, rows.degree) {
-                Class::High(rows.degree)
-            } else {
-                Class::Fitting(rows)
-            }
-        }
-        Finding::Blocked(fault) => Class::Stuck(named_element(fault)),
+        Ok(None) => Class::Vanishing,
+        Ok(Some(rows)) if is_high(job, rows.degree) => Class::High(rows.degree),
+        Ok(Some(rows)) => Class::Fitting(rows),
+        Err(fault) => Class::Stuck(fault),
     }
 }
 
@@ -95,15 +91,15 @@ fn count(job: &mut Job, class: Tallied)
     job.counts = tally(job.counts, class);
 }
 
-// An element without a reciprocal makes the job void.
-fn make_void(job: &mut Job, element: u64) -> Refusal
+// A fault makes the job void.
+fn make_void(job: &mut Job, fault: DivisionFault) -> Refusal
     requires { job.old.counts.offered < limit }
-    ensures answer { result ≡ Refused.NoField element At.Offer }
+    ensures answer { result ≡ Refused.NoField (element_of fault) At.Offer }
     ensures state { state_of job.new ≡ moved job.old (void result) job.old.ceiling job.old.level 0 job.old.counts.held }
     ensures standing { job.new.standing ≡ Stands.Void result }
 {
     let refusal = Refusal::NoField {
-        element,
+        element: named_element(fault),
         stage: Stage::Offer,
     };
     job.counts = accept(job.counts, 0, job.counts.held);
@@ -201,7 +197,7 @@ fn hold_constant<K: Coefficients>(
             );
             Ok(settle(job, kept, rows.degree, reduction))
         }
-        Err(fault) => Err(make_void(job, named_element(fault))),
+        Err(fault) => Err(make_void(job, fault)),
     }
 }
 
@@ -220,9 +216,9 @@ fn hold_last<K: Coefficients>(kind: &K, job: &mut Job, degree: usize) -> Result<
         &job.lefts[..16 * count],
         &job.rights[..16 * count],
     ) {
-        Verdict::Passed(reduction) => Ok(settle(job, held, degree, reduction)),
-        Verdict::Failed => Ok(overturn(job, degree)),
-        Verdict::Blocked(fault) => Err(make_void(job, named_element(fault))),
+        Ok(Some(reduction)) => Ok(settle(job, held, degree, reduction)),
+        Ok(None) => Ok(overturn(job, degree)),
+        Err(fault) => Err(make_void(job, fault)),
     }
 }
 
@@ -288,6 +284,6 @@ pub fn offer_point<K: Coefficients>(kind: &K, job: &mut Job, point: u64) -> Resu
             })
         }
         (Phase::Gathering, Class::Fitting(rows)) => hold(kind, job, point, &rows),
-        (Phase::Gathering, Class::Stuck(element)) => Err(make_void(job, element)),
+        (Phase::Gathering, Class::Stuck(fault)) => Err(make_void(job, fault)),
     }
 }

@@ -17,15 +17,6 @@ pub struct ImageRows {
     pub right: [u64; 16],
 }
 
-#[derive(Clone, Copy)]
-pub enum Finding {
-    // γ is zero there.
-    Vanishing,
-    Image(ImageRows),
-    // An element without a reciprocal stood in the way, in a kind that is no field.
-    Blocked(DivisionFault),
-}
-
 // The images at a point where γ has some value.
 fn images<K: Coefficients>(
     kind: &K,
@@ -54,16 +45,17 @@ fn images<K: Coefficients>(
     })
 }
 
-// Looks at a point.
-pub fn look<K: Coefficients>(kind: &K, workings: &Workings, point: u64) -> Finding
+// Looks at a point: nothing is found where γ is zero, and a kind that is no field may fail.
+pub fn look<K: Coefficients>(
+    kind: &K,
+    workings: &Workings,
+    point: u64,
+) -> Result<Option<ImageRows>, DivisionFault>
     ensures { Looking (K.arithmetic kind.now) workings.now point result }
 {
     let value = horner(kind, &workings.lead, point);
     if value == kind.zero() {
-        return Finding::Vanishing;
+        return Ok(None);
     }
-    match images(kind, workings, point, value) {
-        Ok(rows) => Finding::Image(rows),
-        Err(fault) => Finding::Blocked(fault),
-    }
+    Ok(Some(images(kind, workings, point, value)?))
 }

@@ -16,4 +16,4 @@ returns-in-Err g c a b fit =
     let rows = c.args.rows.now in
     let few = held_few j fit.standing in
     constant_void (g.met.K.Coefficients.laws c.args.kind.now) a b j c.args.point rows.degree rows.divisor rows.left rows.right fit.standing c.requires.room.0 fit.gathers fit.fresh fit.low fit.images j.stored few c.args.kept c.requires.kept
-    c.requires.constant c.make_void.new.job c.in-Err.fault c.named_element.result c.make_void.result c.in-Err.ensures c.named_element.ensures c.make_void.ensures.answer c.make_void.ensures.state c.make_void.ensures.standing
+    c.requires.constant c.make_void.new.job c.in-Err.fault c.make_void.result c.in-Err.ensures c.make_void.ensures.answer c.make_void.ensures.state c.make_void.ensures.standing
