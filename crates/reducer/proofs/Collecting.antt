@@ -46,13 +46,13 @@ module _ (K : Arithmetic) (a b : List ℕ) (j : Job) (d l r : List ℕ) where
     stage_is = ap stage_of is
 
     divisor_whole : Whole K j.reduction.divisor
-    divisor_whole = record { long = long; inside = settles.reduction.divisor_in }
+    divisor_whole = record { long = long; inside = settles.reduction.elements.divisor_in }
 
     left_whole : Whole K j.reduction.left
-    left_whole = record { long = left_long; inside = settles.reduction.left_in }
+    left_whole = record { long = left_long; inside = settles.reduction.elements.left_in }
 
     right_whole : Whole K j.reduction.right
-    right_whole = record { long = right_long; inside = settles.reduction.right_in }
+    right_whole = record { long = right_long; inside = settles.reduction.elements.right_in }
 
     given : collect_rule K a b s (length d) (length l) (length r) ≡ Ok (collected K a b s)
     given = collects K a b s (length d) (length l) (length r) stage_is d_long l_long r_long

@@ -104,7 +104,7 @@ module _ {K : Arithmetic} (laws : Laws K) (a b : List ℕ) (j : Job) (α : ℕ) 
           let g = gathering_sound K a b j e sound in
           counted _ _ se (build a b s α _ _ (λ pair. pair.at_point α ≡ image k) (λ pair el f. offer_high pair s α (ap stage_of e) lt (el α ∙ fresh.element) fresh.apart k f high)
           (found K (image k) passed 0) (found_owed K (image k) passed 0 (not_blocked K k) (not_blocked_test K)) refl
-          (λ only. found_image laws only a b g.opens α rows.degree rows.divisor rows.left rows.right fresh.element (look a b g.workings fresh.element) ∙ ap image is) (λ only five. absurd (omega arith)))
+          (λ only. found_image laws only a b g.opens α rows.degree rows.rows.divisor rows.rows.left rows.rows.right fresh.element (look a b g.workings fresh.element) ∙ ap image is) (λ only five. absurd (omega arith)))
 
   -- a fault makes the job void
   pub stuck_offered : (j' : Job) (x : DivisionFault) (r : Refusal) → j.standing ≡ Standing.Gathering → j.counts.offered < limit → Classed K j α (Class.Stuck x) → r ≡ Refusal.NoField (element_of x) Stage.Offer →

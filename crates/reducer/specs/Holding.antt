@@ -41,9 +41,7 @@ Classed K j α (Class.Stuck e) = Fresh K j α × Looking K j.workings α (Err e)
 pub record SameRows (j j' : Job) : Type 0 where
   pub workings : j'.workings ≡ j.workings
   pub points : j'.points ≡ j.points
-  pub divisors : j'.divisors ≡ j.divisors
-  pub lefts : j'.lefts ≡ j.lefts
-  pub rights : j'.rights ≡ j.rights
+  pub images : j'.images ≡ j.images
 
 -- .. and what the job is, the degree and the number of the points, and the answer
 pub record Kept (j j' : Job) : Type 0 where
@@ -69,7 +67,7 @@ pub record Fitting (K : Arithmetic) (a b : List ℕ) (j : Job) (α : ℕ) (rows 
   pub gathers : Gathers K a b j
   pub fresh : Fresh K j α
   pub low : too_high (state_of j) rows.degree ≡ false
-  pub images : ImagesOf K a b α rows.degree rows.divisor rows.left rows.right
+  pub images : ImagesOf K a b α rows.degree rows.rows.divisor rows.rows.left rows.rows.right
 
 -- what an offer of α makes of the job j, for all tables of which it is sound
 abbrev pub Promised : Arithmetic → (Fits : (a b : List ℕ) → Type 0) → Job → (α : ℕ) → Job → Result Answer Refusal → Type 0
@@ -84,4 +82,4 @@ pub record Complete (K : Arithmetic) (a b : List ℕ) (j : Job) (k : ℕ) : Type
   pub some : ¬ (k ≡ 0)
   pub all_kept : cond (nat_lt k j.level) 0 j.counts.held ≡ j.counts.held
   pub number : j.counts.held + 1 ≡ j.workings.closing
-  pub holds : Holds K a b k (j.counts.held + 1) j.points j.divisors j.lefts j.rights
+  pub holds : Holds K a b k (j.counts.held + 1) j.points j.images

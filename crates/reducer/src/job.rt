@@ -5,6 +5,7 @@ ghost use Rattle.reducer.specs.Room.{wanted, classes};
 use crate::standing::Standing;
 use rules::counts::Counts;
 use steps::answer::Reduction;
+use steps::factored::Factored;
 use steps::prepare::Workings;
 
 #[derive(Drop)]
@@ -16,11 +17,9 @@ pub struct Job {
     pub level: usize,
     pub counts: Counts,
     pub workings: Workings,
-    // The held points in order, and the images at them, 16 codes for each.
+    // The held points in order, and the images at them, 16 codes for each: memory is fixed, so both stand here as arrays.
     pub points: [u64; 31],
-    pub divisors: [u64; 496],
-    pub lefts: [u64; 496],
-    pub rights: [u64; 496],
+    pub images: Factored<496>,
     // What is collected once the job is settled.
     pub reduction: Reduction,
     ghost stored: { length points ≡ 31 },

@@ -19,6 +19,7 @@ use coefficients::kind::Coefficients;
 use rules::answer::Answer;
 use rules::refusal::{Refusal, Stage};
 use steps::answer::{Reduction, reduce_free};
+use steps::images::Images;
 use steps::look::{ImageRows, look};
 use steps::verdict::decide;
 use tables::faults::DivisionFault;
@@ -188,13 +189,7 @@ fn hold_constant<K: Coefficients>(
     match reduce_free(kind, &job.workings) {
         Ok(reduction) => {
             job.points[kept] = point;
-            put_images(
-                &mut job.divisors,
-                &mut job.lefts,
-                &mut job.rights,
-                kept,
-                rows,
-            );
+            put_images(&mut job.images, kept, &rows.rows);
             Ok(settle(job, kept, rows.degree, reduction))
         }
         Err(fault) => Err(make_void(job, fault)),
@@ -208,14 +203,13 @@ fn hold_last<K: Coefficients>(kind: &K, job: &mut Job, degree: usize) -> Result<
 {
     let held = job.counts.held as usize;
     let count = held + 1;
-    match decide(
-        kind,
-        &job.workings,
-        &job.points[..count],
-        &job.divisors[..16 * count],
-        &job.lefts[..16 * count],
-        &job.rights[..16 * count],
-    ) {
+    let images = Images {
+        points: &job.points[..count],
+        divisors: &job.images.divisor[..16 * count],
+        lefts: &job.images.left[..16 * count],
+        rights: &job.images.right[..16 * count],
+    };
+    match decide(kind, &job.workings, &images) {
         Ok(Some(reduction)) => Ok(settle(job, held, degree, reduction)),
         Ok(None) => Ok(overturn(job, degree)),
         Err(fault) => Err(make_void(job, fault)),
@@ -238,13 +232,7 @@ fn hold<K: Coefficients>(
         return hold_constant(kind, job, point, kept, rows);
     }
     job.points[kept] = point;
-    put_images(
-        &mut job.divisors,
-        &mut job.lefts,
-        &mut job.rights,
-        kept,
-        rows,
-    );
+    put_images(&mut job.images, kept, &rows.rows);
     if kept + 1 == job.workings.closing {
         hold_last(kind, job, rows.degree)
     } else {

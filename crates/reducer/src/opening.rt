@@ -15,6 +15,7 @@ use polynomials::rows::size;
 use rules::counts::Counts;
 use rules::refusal::{Refusal, Stage, Table};
 use steps::answer::Reduction;
+use steps::factored::Factored;
 use steps::prepare::{Part, Workings, prepare};
 
 // A table has 256 codes.
@@ -108,9 +109,11 @@ fn begin(standing: Standing, workings: Workings, ceiling: usize) -> Job
         counts: NONE,
         workings,
         points: [0; 31],
-        divisors: [0; 496],
-        lefts: [0; 496],
-        rights: [0; 496],
+        images: Factored {
+            divisor: [0; 496],
+            left: [0; 496],
+            right: [0; 496],
+        },
         reduction: Reduction {
             divisor: [0; 256],
             left: [0; 256],

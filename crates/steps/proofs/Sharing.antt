@@ -45,19 +45,13 @@ pub right_refused : {K : Arithmetic} (laws : Laws K) (a b d rest held q : List �
 right_refused laws a b d rest held q m n (Reciprocal e) shared sized told = lead_refused laws a b d rest m n e shared sized told.0
 right_refused laws a b d rest held q m n Uneven shared sized uneven = λ ha hb nonzero only. let c = shared ha hb in ((uneven hb c.0).1 laws).1 (inl only) (c.3 laws).greatest.right
 
-pub sharing : {K : Arithmetic} (a b d rest held_l held_r l r : List ℕ) (m n : ℕ) (u v : Unit {0}) → Common K a b d rest (Ok m) → Sized K d n → Even K a d held_l l (Ok u) → Even K b d held_r r (Ok v) → (s : Shares) → s.size ≡ n → s.common ≡ d → s.left ≡ l → s.right ≡ r → Sharing K a b (Ok s)
-sharing {K = K} a b d rest held_l held_r l r m n u v shared sized even_a even_b s en ed el er ha hb =
+pub sharing : {K : Arithmetic} (a b d rest held_l held_r l r : List ℕ) (m n : ℕ) (u v : Unit {0}) → Common K a b d rest (Ok m) → Sized K d n → Even K a d held_l l (Ok u) → Even K b d held_r r (Ok v) → Sharing K a b (Ok (record { size = n; rows = record { divisor = d; left = l; right = r } }))
+sharing a b d rest held_l held_r l r m n u v shared sized even_a even_b ha hb =
     let c = shared ha hb in
     let x = even_a ha c.0 in
     let y = even_b hb c.0 in
-    rw_in s en ed el er c.0 x.0 y.0 (λ laws. c.3 laws) (λ laws. x.1 laws) (λ laws. y.1 laws)
-  where
-    rw_in : (s : Shares) → s.size ≡ n → s.common ≡ d → s.left ≡ l → s.right ≡ r → Inside K d → Inside K l → Inside K r → ((laws : Laws K) → MonicGcd laws a b d) → ((laws : Laws K) → ¬ (polynomial laws d ≡ (polynomials laws).zero) × (polynomial laws a ≡ (polynomials laws).mul (polynomial laws d) (polynomial laws l))) →
-        ((laws : Laws K) → ¬ (polynomial laws d ≡ (polynomials laws).zero) × (polynomial laws b ≡ (polynomials laws).mul (polynomial laws d) (polynomial laws r))) → SharesOf K a b s
-    rw_in s en ed el er hd hl hr g x y = record {
-      common_in = rw ed hd;
-      left_in = rw el hl;
-      right_in = rw er hr;
-      sized = rw (ed, en) sized;
-      shared = λ laws. record { gcd = rw ed (g laws); nonzero = rw ed (x laws).0; left = rw (ed, el) (x laws).1; right = rw (ed, er) (y laws).1 };
+    record {
+      elements = record { divisor_in = c.0; left_in = x.0; right_in = y.0 };
+      sized = sized;
+      shared = λ laws. record { gcd = c.3 laws; nonzero = (x.1 laws).0; left = (x.1 laws).1; right = (y.1 laws).1 };
     }

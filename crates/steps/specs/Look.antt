@@ -43,11 +43,11 @@ pub record ImagesOf (K : Arithmetic) (a b : List ℕ) (α k : ℕ) (d l r : List
 
 -- `images`: γ has the value v at α, which is not zero
 abbrev pub Imaging : Arithmetic → Workings → (α v : ℕ) → Result ImageRows DivisionFault → Type 0
-Imaging K w α v (Ok i) = (a b : List ℕ) → WorkingsOf K a b w → K.element α ≡ true → K.element v ≡ true → ((laws : Laws K) → Value laws w.lead α v) → ¬ (v ≡ K.zero) → ImagesOf K a b α i.degree i.divisor i.left i.right
+Imaging K w α v (Ok i) = (a b : List ℕ) → WorkingsOf K a b w → K.element α ≡ true → K.element v ≡ true → ((laws : Laws K) → Value laws w.lead α v) → ¬ (v ≡ K.zero) → ImagesOf K a b α i.degree i.rows.divisor i.rows.left i.rows.right
 Imaging K w α v (Err e) = (a b : List ℕ) → WorkingsOf K a b w → K.element α ≡ true → Faulty K e
 
 -- `look`: what is found at an element, and nothing where γ is zero
 abbrev pub Looking : Arithmetic → Workings → (α : ℕ) → Result (Option ImageRows) DivisionFault → Type 0
-Looking K w α (Ok (Some i)) = (a b : List ℕ) → WorkingsOf K a b w → K.element α ≡ true → ImagesOf K a b α i.degree i.divisor i.left i.right
+Looking K w α (Ok (Some i)) = (a b : List ℕ) → WorkingsOf K a b w → K.element α ≡ true → ImagesOf K a b α i.degree i.rows.divisor i.rows.left i.rows.right
 Looking K w α (Ok None) = (a b : List ℕ) → WorkingsOf K a b w → K.element α ≡ true → (laws : Laws K) (only : IsField K) (p : Prepared (scalars laws only) (table laws a) (table laws b)) → lead_at laws only p α ≡ (elements laws).zero
 Looking K w α (Err e) = (a b : List ℕ) → WorkingsOf K a b w → K.element α ≡ true → Faulty K e

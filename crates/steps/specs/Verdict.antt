@@ -9,7 +9,7 @@ use Rattle.polynomials.specs.Rows.{Inside}
 use Rattle.values.specs.Meaning.{scalars}
 use Rattle.steps.specs.declared.prepare.Workings.{Workings}
 use Rattle.tables.specs.declared.faults.DivisionFault.{DivisionFault}
-use Rattle.steps.specs.declared.answer.Reduction.{Reduction}
+use Rattle.steps.specs.declared.factored.Factored.{Factored}
 use Rattle.steps.specs.Faults.{Faulty}
 use Rattle.steps.specs.Prepare.{WorkingsOf}
 use Rattle.steps.specs.Trial.{Gathered}
@@ -35,7 +35,7 @@ pub record Enough (K : Arithmetic) (a b : List ℕ) (w : Workings) (k : ℕ) (po
   pub number : length points ≡ w.closing
 
 -- `decide`: over a field the test is passed, and the answer is read off, or it is failed
-abbrev pub Deciding : Arithmetic → Workings → (points ds ls rs : List ℕ) → Result (Option Reduction) DivisionFault → Type 0
+abbrev pub Deciding : Arithmetic → Workings → (points ds ls rs : List ℕ) → Result (Option (Factored 256)) DivisionFault → Type 0
 Deciding K w points ds ls rs (Ok (Some r)) = (a b : List ℕ) (k : ℕ) → Enough K a b w k points ds ls rs →
     ReductionOf K a b r × ((laws : Laws K) (only : IsField K) (p : Prepared (scalars laws only) (table laws a) (table laws b)) → Tested laws only p k points (Passes (scalars laws only) p))
 Deciding K w points ds ls rs (Ok None) = (a b : List ℕ) (k : ℕ) → Enough K a b w k points ds ls rs →

@@ -1,6 +1,7 @@
 // What is found where y is set to a point.
 ghost use Rattle.steps.specs.Look.{Imaging, Looking};
 
+use crate::factored::Factored;
 use crate::prepare::{Workings, degree};
 use crate::share::{Shares, share};
 use coefficients::kind::Coefficients;
@@ -12,9 +13,7 @@ use tables::faults::DivisionFault;
 #[derive(Clone, Copy)]
 pub struct ImageRows {
     pub degree: usize,
-    pub divisor: [u64; 16],
-    pub left: [u64; 16],
-    pub right: [u64; 16],
+    pub rows: Factored<16>,
 }
 
 // The images at a point where γ has some value.
@@ -30,18 +29,11 @@ fn images<K: Coefficients>(
     image_row(kind, &workings.left.rows, point, &mut a);
     let mut b = [0u64; 16];
     image_row(kind, &workings.right.rows, point, &mut b);
-    let Shares {
-        size,
-        mut common,
-        left,
-        right,
-    } = share(kind, &a, &b)?;
-    scale(kind, &mut common, value);
+    let Shares { size, mut rows } = share(kind, &a, &b)?;
+    scale(kind, &mut rows.divisor, value);
     Ok(ImageRows {
         degree: degree(size),
-        divisor: common,
-        left,
-        right,
+        rows,
     })
 }
 
