@@ -14,7 +14,7 @@ use tables::scale::multiply_rows;
 // The greatest common divisor of two tables, and its cofactors.
 pub type Reduction = Factored<256>;
 
-// The first 16 codes of each of 16 rows of 32.
+// The first 16 codes of each of 16 rows of 32. By index: of what is written through chunks a proof keeps the length only.
 fn narrow(rows: &[u64; 512]) -> [u64; 256]
     ensures { Narrowed rows.now result }
 {
