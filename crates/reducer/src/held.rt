@@ -1,21 +1,8 @@
-// The held points and the images at them.
+// Writing the images at a held point.
 ghost use Rattle.std.specs.Prelude.{◌≡◌, ◌<◌};
-ghost use Rattle.rules.specs.Offer.{member};
 ghost use Rattle.reducer.specs.Held.{Placed, Written};
 
 use steps::factored::Factored;
-
-// Whether a point is one of these.
-pub fn is_among(point: u64, points: &[u64]) -> bool
-    ensures { result ≡ member point points.now }
-{
-    for held in points {
-        if *held == point {
-            return true;
-        }
-    }
-    false
-}
 
 // Writes a row of 16 codes into a place.
 fn put_row(rows: &mut [u64; 496], place: usize, row: &[u64; 16])

@@ -1,4 +1,6 @@
 // What an offer does to a job: first what the point is found to be, then what comes of it.
+// The kind is lent beside the job: a state copies it out before it lends the job to be changed.
+// Each step asks for room for one more offer in a clause: a type that has the fact and lends the job would hold a `&mut` beside a ghost field, of which nothing is proved.
 ghost use Rattle.std.specs.Prelude.{◌≡◌, ℕ, ◌+◌, ◌-◌, ◌<◌, ◌≤◌, List, if◌then◌else◌, nat_eq, nat_lt, slice_index};
 ghost use Rattle.rules.specs.Job.{limit, gathering, settled, void};
 ghost use Rattle.rules.specs.Offer.{too_high, counting};
@@ -12,7 +14,7 @@ ghost use Rattle.reducer.specs.Holding.{Phased, Classed, SameRows, Kept, moved, 
 
 use crate::counting::{Tallied, accept, tally};
 use crate::faults::named_element;
-use crate::held::{is_among, put_images};
+use crate::held::put_images;
 use crate::job::Job;
 use crate::standing::Standing;
 use coefficients::kind::Coefficients;
@@ -47,15 +49,14 @@ pub enum Class {
     Stuck(DivisionFault),
 }
 
-// No job takes more than 1,048,575 offers.
 fn phase_of(job: &Job) -> Phase
     ensures { Phased job.now result }
 {
-    let full = job.counts.offered >= 1048575;
     match job.standing {
         Standing::Void(refusal) => Phase::Void(refusal),
-        Standing::Settled => { if full { Phase::Full } else { Phase::Settled } }
-        Standing::Gathering => { if full { Phase::Full } else { Phase::Gathering } }
+        _ if job.is_full() => Phase::Full,
+        Standing::Settled => Phase::Settled,
+        Standing::Gathering => Phase::Gathering,
     }
 }
 
@@ -72,7 +73,7 @@ fn class_of<K: Coefficients>(kind: &K, job: &Job, point: u64) -> Class
     if !kind.contains(point) {
         return Class::Foreign;
     }
-    if is_among(point, &job.points[..job.counts.held as usize]) {
+    if job.holds(point) {
         return Class::Repeated;
     }
     match look(kind, &job.workings, point) {
@@ -110,7 +111,9 @@ fn make_void(job: &mut Job, fault: DivisionFault) -> Refusal
 
 // The job is settled with a point that is held after `kept` others.
 fn settle(job: &mut Job, kept: usize, degree: usize, reduction: Reduction) -> Answer
-    requires { (job.old.counts.offered < limit) × ((kept ≤ job.old.counts.held) × (kept < 31)) }
+    requires room { job.old.counts.offered < limit }
+    requires fewer { kept ≤ job.old.counts.held }
+    requires place { kept < 31 }
     ensures answer { result ≡ Answered.Settled degree (job.old.counts.held - kept) }
     ensures state { state_of job.new ≡ moved job.old settled job.old.ceiling degree (job.old.counts.held - kept) (kept + 1) }
     ensures standing { job.new.standing ≡ Stands.Settled }
@@ -129,7 +132,8 @@ fn settle(job: &mut Job, kept: usize, degree: usize, reduction: Reduction) -> An
 
 // All points are let go with this one, and no image of its degree is held any more.
 fn overturn(job: &mut Job, degree: usize) -> Answer
-    requires { (job.old.counts.offered < limit) × (1 ≤ job.old.workings.closing) }
+    requires room { job.old.counts.offered < limit }
+    requires closes { 1 ≤ job.old.workings.closing }
     ensures answer { result ≡ Answered.Overturned degree (job.old.counts.held + 1) }
     ensures state { state_of job.new ≡ moved job.old gathering degree degree (job.old.counts.held + 1) 0 }
     ensures held { job.new.counts.held ≡ 0 }
@@ -149,7 +153,9 @@ fn overturn(job: &mut Job, degree: usize) -> Answer
 
 // The point is held after `kept` others.
 fn keep(job: &mut Job, kept: usize, degree: usize) -> Answer
-    requires { (job.old.counts.offered < limit) × ((kept ≤ job.old.counts.held) × (kept + 1 < job.old.workings.closing)) }
+    requires room { job.old.counts.offered < limit }
+    requires fewer { kept ≤ job.old.counts.held }
+    requires open { kept + 1 < job.old.workings.closing }
     ensures answer { result ≡ (if nat_eq (job.old.counts.held - kept) 0 then Answered.Held degree (job.old.counts.held - kept) else Answered.Lowered degree (job.old.counts.held - kept)) }
     ensures state { state_of job.new ≡ moved job.old gathering job.old.ceiling degree (job.old.counts.held - kept) (kept + 1) }
     ensures held { job.new.counts.held ≡ kept + 1 }
@@ -181,7 +187,8 @@ fn hold_constant<K: Coefficients>(
     kept: usize,
     rows: &ImageRows,
 ) -> Result<Answer, Refusal>
-    requires room { (job.old.counts.offered < limit) × (kept < 31) }
+    requires room { job.old.counts.offered < limit }
+    requires place { kept < 31 }
     requires kept { kept ≡ (if nat_lt rows.now.degree job.old.level then 0 else job.old.counts.held) }
     requires constant { rows.now.degree ≡ 0 }
     ensures { Promised (K.arithmetic kind.now) (λ a b. Fitting (K.arithmetic kind.now) a b job.old point rows.now) job.old point job.new result }
@@ -198,7 +205,8 @@ fn hold_constant<K: Coefficients>(
 
 // As many points as the closing number, of which the last is not counted yet, are joined and tested.
 fn hold_last<K: Coefficients>(kind: &K, job: &mut Job, degree: usize) -> Result<Answer, Refusal>
-    requires { (job.old.counts.offered < limit) × (job.old.counts.held + 1 ≡ job.old.workings.closing) }
+    requires room { job.old.counts.offered < limit }
+    requires number { job.old.counts.held + 1 ≡ job.old.workings.closing }
     ensures { Promised (K.arithmetic kind.now) (λ a b. Complete (K.arithmetic kind.now) a b job.old degree) job.old (slice_index job.old.points job.old.counts.held) job.new result }
 {
     let held = job.counts.held as usize;
@@ -223,7 +231,8 @@ fn hold<K: Coefficients>(
     point: u64,
     rows: &ImageRows,
 ) -> Result<Answer, Refusal>
-    requires { (job.old.standing ≡ Stands.Gathering) × (job.old.counts.offered < limit) }
+    requires standing { job.old.standing ≡ Stands.Gathering }
+    requires room { job.old.counts.offered < limit }
     ensures { Promised (K.arithmetic kind.now) (λ a b. Fitting (K.arithmetic kind.now) a b job.old point rows.now) job.old point job.new result }
 {
     let held = job.counts.held as usize;

@@ -60,16 +60,17 @@ fn check_some<K: Coefficients>(kind: &K, table: Table, codes: &[u64]) -> Result<
 
 // The coefficient of the leading term has a reciprocal.
 fn check_lead<K: Coefficients>(kind: &K, codes: &[u64], count: usize) -> Result<(), Refusal>
-    requires { (0 < count) × ((Inside (K.arithmetic kind.now) codes.now) × (Sized (K.arithmetic kind.now) codes.now count)) }
+    requires some { 0 < count }
+    requires inside { Inside (K.arithmetic kind.now) codes.now }
+    requires sized { Sized (K.arithmetic kind.now) codes.now count }
     ensures { Leads (K.arithmetic kind.now) codes.now count result }
 {
-    match kind.reciprocal(codes[count - 1]) {
-        Ok(_) => Ok(()),
-        Err(_) => Err(Refusal::NoField {
-            element: codes[count - 1],
-            stage: Stage::Opening,
-        }),
-    }
+    let element = codes[count - 1];
+    kind.reciprocal(element).map_err(|_| Refusal::NoField {
+        element,
+        stage: Stage::Opening,
+    })?;
+    Ok(())
 }
 
 // The checks of an opening.
@@ -99,7 +100,8 @@ const NONE: Counts = Counts {
 
 // A job that begins.
 fn begin(standing: Standing, workings: Workings, ceiling: usize) -> Job
-    requires { (wanted standing 0 ≤ workings.closing) × (workings.closing ≤ 31) }
+    requires room { wanted standing 0 ≤ workings.closing }
+    requires closes { workings.closing ≤ 31 }
     ensures { Begun standing workings ceiling result }
 {
     Job {

@@ -20,19 +20,13 @@ fn cause_to_stop(job: &Job, drawn: u64, draws: u64) -> Option<Result<(), Refusal
     match job.standing {
         Standing::Void(refusal) => Some(Err(refusal)),
         Standing::Settled => Some(Ok(())),
-        Standing::Gathering => {
-            if job.counts.offered >= 1048575 {
-                Some(Err(Refusal::Full(job.counts)))
-            } else if drawn == draws {
-                Some(Err(Refusal::Spent(job.counts)))
-            } else {
-                None
-            }
-        }
+        Standing::Gathering if job.is_full() => Some(Err(Refusal::Full(job.counts))),
+        Standing::Gathering if drawn == draws => Some(Err(Refusal::Spent(job.counts))),
+        Standing::Gathering => None,
     }
 }
 
-// Draws and offers until there is a cause to stop.
+// Draws and offers until there is a cause to stop. Counted by hand: it is looked for before each draw and once more after the last, where a range of draws has ended.
 fn draw_points<K: Coefficients, S: Source>(
     kind: &K,
     job: &mut Job,
@@ -46,18 +40,14 @@ fn draw_points<K: Coefficients, S: Source>(
         if let Some(ending) = cause_to_stop(job, drawn, draws) {
             return Ran { drawn, ending };
         }
-        match source.draw() {
-            Some(point) => {
-                let _ = offer_point(kind, job, point);
-                drawn += 1;
-            }
-            None => {
-                return Ran {
-                    drawn,
-                    ending: Err(Refusal::Empty(job.counts)),
-                };
-            }
-        }
+        let Some(point) = source.draw() else {
+            return Ran {
+                drawn,
+                ending: Err(Refusal::Empty(job.counts)),
+            };
+        };
+        let _ = offer_point(kind, job, point);
+        drawn += 1;
     }
 }
 

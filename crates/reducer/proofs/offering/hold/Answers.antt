@@ -23,5 +23,5 @@ returns-else-kept-job g c a b fit =
     elim c.if-rows-job.branch [ then-rows-job w ↦ w.kept-is ∙ sym (ap (λ x. cond x 0 j.counts.held) (lt-ltb rows.degree j.level w.if-rows-job.true)) | else-rows-job w ↦ w.kept-is ∙ sym (ap (λ x. cond x 0 j.counts.held) (le-ltb rows.degree j.level w.if-rows-job.false)) ] in
     let few = held_few j fit.standing in
     let holds = holds_with j rows.degree c.if-rows-job.kept n_is few a b c.args.point rows.rows _ j.stored fit.gathers.holds fit.fresh.element fit.fresh.apart fit.low fit.images c.put_images.ensures in
-    stays_held (g.met.K.Coefficients.laws c.args.kind.now) a b j c.args.point rows.degree rows.rows.divisor rows.rows.left rows.rows.right fit.standing c.requires.1 fit.gathers fit.fresh fit.low fit.images j.stored few c.if-rows-job.kept n_is
+    stays_held (g.met.K.Coefficients.laws c.args.kind.now) a b j c.args.point rows.degree rows.rows.divisor rows.rows.left rows.rows.right fit.standing c.requires.room fit.gathers fit.fresh fit.low fit.images j.stored few c.if-rows-job.kept n_is
     c.if-rows-eq0.false c.if-kept-job.false _ holds c.keep.new.job c.keep.result c.keep.ensures.state c.keep.ensures.standing c.keep.ensures.answer c.keep.ensures.rows.workings (ap (λ (x : State). x.level) c.keep.ensures.state) c.keep.ensures.held c.keep.ensures.rows.points c.keep.ensures.rows.images

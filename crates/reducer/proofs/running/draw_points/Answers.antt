@@ -21,11 +21,11 @@ drawing-preserved g c =
           (going_more K a b c.args.draws _ _ (state_of c.drawing.job) (state_of c.offer_point.new.job) c.drawing.drawn c.in-Some-draw.point c.offer_point.result (g.S.Source.waiting c.drawing.source) (g.S.Source.waiting c.draw.new.self) c.in_default.ensures c.in-Some-draw.ensures offered going, now),
     )
 
-pub returns-in-None : goal.returns-in-None
-returns-in-None g c a b sound =
+pub returns-in_default-draw : goal.returns-in_default-draw
+returns-in_default-draw g c a b sound =
     let K = g.K.Coefficients.arithmetic c.args.kind.now in
     let j = c.drawing.job in
     let stored = j.stored in
     let few = j.few in
     let (going, still) = c.drawing.invariant.1 a b sound in
-    (going_empty K a b c.args.draws _ _ (state_of j) c.drawing.drawn (g.S.Source.waiting c.drawing.source) (g.S.Source.waiting c.draw.new.self) j.counts c.in_default.ensures c.in-None.ensures (counts_of j (omega arith)) going, still)
+    (going_empty K a b c.args.draws _ _ (state_of j) c.drawing.drawn (g.S.Source.waiting c.drawing.source) (g.S.Source.waiting c.draw.new.self) j.counts c.in_default.ensures c.in_default-draw.ensures (counts_of j (omega arith)) going, still)
