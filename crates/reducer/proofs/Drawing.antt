@@ -17,9 +17,6 @@ pub record Going (K : Arithmetic) (a b : List ℕ) (n : ℕ) (s₀ : State) (w�
   pub over_field : IsField K → draw_on (pair_of K a b) s₀ 0 n w₀ ≡ draw_on (pair_of K a b) s drawn n w
   pub over_kind : (end : Outcome) → Draws K n s drawn w end → Draws K n s₀ 0 w₀ end
 
-pub going_none : (K : Arithmetic) (a b : List ℕ) (n : ℕ) (s : State) (w : List ℕ) → Going K a b n s w s 0 w
-going_none K a b n s w = record { over_field = λ only. refl; over_kind = λ end d. d }
-
 -- where a run goes on, its draws are not spent
 pub drawn_fewer : (s : State) (drawn n : ℕ) → check s drawn n ≡ go → ¬ (drawn ≡ n)
 drawn_fewer s drawn n c e = go_on s.stage (leb limit s.tally.offered) (subst (λ (x : Bool). elim s.stage [ void r ↦ stop (Err r) | settled ↦ stop (Ok tt) | gathering ↦ cond (leb limit s.tally.offered) (stop (Err (Full (counts s)))) (cond x (stop (Err (Spent (counts s)))) go) ] ≡ go) (eq-eqb drawn n e) c)
@@ -63,7 +60,3 @@ runs_drawn K a b s n w end fresh d = record { over_field = λ only. by_stage s.s
     by_stage gathering h = refl
     by_stage settled h = absurd (h refl)
     by_stage (void r) h = refl
-
--- a run of a settled job
-pub runs_settled : (K : Arithmetic) (a b : List ℕ) (s : State) (n : ℕ) (w : List ℕ) → s.stage ≡ settled → Runs K a b s n w (outcome s w 0 (Err (Settled 0)))
-runs_settled K a b s n w e = record { over_field = λ only. rw e refl; settled_before = λ _. refl; over_kind = λ h. absurd (h e) }

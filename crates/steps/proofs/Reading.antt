@@ -55,9 +55,6 @@ pub record Copied (t r : List ℕ) (i : ℕ) : Type 0 where
   pub long : length r ≡ 256
   pub rows : (k : ℕ) → k < i → cut_row 16 r k ≡ take 16 (cut_row 32 t k)
 
-pub copied_none : (t r : List ℕ) → length r ≡ 256 → Copied t r 0
-copied_none t r long = record { long = long; rows = λ k lt. absurd (omega arith) }
-
 pub copied_more : (t r y : List ℕ) (i n : ℕ) → length t ≡ 512 → i < 16 → n ≡ 16 → y ≡ take (32 * i + 16 - 32 * i) (drop (32 * i) t) → Copied t r i → Copied t (put_mid (16 * i) n r y) (i + 1)
 copied_more t r y i n lt within width is h = record { long = whole; rows = λ k lk. go k (cases_lt k i) lk }
   where
@@ -82,9 +79,6 @@ copied_more t r y i n lt within width is h = record { long = whole; rows = λ k 
     go k (inr l) lk =
         let e : i ≡ k = omega arith in
         subst (λ (k : ℕ). cut_row 16 (put_mid (16 * i) n r y) k ≡ take 16 (cut_row 32 t k)) e (put_here 16 i (16 * i) n r y refl (let e = h.long in omega arith) wide ∙ half)
-
-pub copied_all : (t r : List ℕ) (i : ℕ) → 16 ≤ i → Copied t r i → Narrowed t r
-copied_all t r i all h = record { long = h.long; rows = λ k lt. h.rows k (omega arith) }
 
 -- narrower rows of elements are rows of elements
 pub narrowed_in : (K : Arithmetic) (t r : List ℕ) → Narrowed t r → Inside K t → Inside K r

@@ -17,10 +17,6 @@ use Rattle.steps.specs.declared.share.Shares.{Shares}
 use Rattle.steps.specs.Faults.{Faulty}
 use Rattle.steps.specs.Share.{SharesOf, Sharing}
 
--- an element without a reciprocal, where a field would have one
-pub stuck_faulty : {K : Arithmetic} (e : ReciprocalFault) → (c : ℕ) × (e ≡ NoReciprocal c) × Stuck K c → Faulty K (Reciprocal e)
-stuck_faulty e (c, is, s) = (s.no_field, (c, is, s.inside, s.none))
-
 -- zero divides only zero
 divided_zero : {K : Arithmetic} (laws : Laws K) (a b d : List ℕ) → MonicGcd laws a b d → polynomial laws d ≡ (polynomials laws).zero → polynomial laws a ≡ (polynomials laws).zero
 divided_zero laws a b d m z = let (q, e) = m.greatest.left in e ∙ ap (λ x. (polynomials laws).mul x q) z ∙ zero_mul (polynomials laws) q
@@ -44,14 +40,3 @@ left_refused laws a b d rest held q m n Uneven shared sized uneven = λ ha hb no
 pub right_refused : {K : Arithmetic} (laws : Laws K) (a b d rest held q : List ℕ) (m n : ℕ) (e : DivisionFault) → Common K a b d rest (Ok m) → Sized K d n → Even K b d held q (Err e) → Sharing K a b (Err e)
 right_refused laws a b d rest held q m n (Reciprocal e) shared sized told = lead_refused laws a b d rest m n e shared sized told.0
 right_refused laws a b d rest held q m n Uneven shared sized uneven = λ ha hb nonzero only. let c = shared ha hb in ((uneven hb c.0).1 laws).1 (inl only) (c.3 laws).greatest.right
-
-pub sharing : {K : Arithmetic} (a b d rest held_l held_r l r : List ℕ) (m n : ℕ) (u v : Unit {0}) → Common K a b d rest (Ok m) → Sized K d n → Even K a d held_l l (Ok u) → Even K b d held_r r (Ok v) → Sharing K a b (Ok (record { size = n; rows = record { divisor = d; left = l; right = r } }))
-sharing a b d rest held_l held_r l r m n u v shared sized even_a even_b ha hb =
-    let c = shared ha hb in
-    let x = even_a ha c.0 in
-    let y = even_b hb c.0 in
-    record {
-      elements = record { divisor_in = c.0; left_in = x.0; right_in = y.0 };
-      sized = sized;
-      shared = λ laws. record { gcd = c.3 laws; nonzero = (x.1 laws).0; left = (x.1 laws).1; right = (y.1 laws).1 };
-    }
