@@ -22,13 +22,9 @@ use steps::prepare::{Part, Workings, prepare};
 pub fn check_length(table: Table, codes: &[u64]) -> Result<(), Refusal>
     ensures { Long table codes.now result }
 {
-    if codes.len() == 256 {
-        Ok(())
-    } else {
-        Err(Refusal::Length {
-            table,
-            length: codes.len(),
-        })
+    match codes.len() {
+        256 => Ok(()),
+        length => Err(Refusal::Length { table, length }),
     }
 }
 
@@ -36,16 +32,14 @@ pub fn check_length(table: Table, codes: &[u64]) -> Result<(), Refusal>
 fn check_elements<K: Coefficients>(kind: &K, table: Table, codes: &[u64]) -> Result<(), Refusal>
     ensures { AllElements (K.arithmetic kind.now) table codes.now result }
 {
-    for (place, code) in codes.iter().enumerate() {
-        if !kind.contains(*code) {
-            return Err(Refusal::ForeignCode {
-                table,
-                place,
-                code: *code,
-            });
-        }
+    match codes.iter().position(|code| !kind.contains(*code)) {
+        None => Ok(()),
+        Some(place) => Err(Refusal::ForeignCode {
+            table,
+            place,
+            code: codes[place],
+        }),
     }
-    Ok(())
 }
 
 // Some code is not zero; answers one more than the place of the last.
