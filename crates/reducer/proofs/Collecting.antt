@@ -25,18 +25,6 @@ module _ (K : Arithmetic) (a b : List ℕ) (j : Job) (d l r : List ℕ) where
   abbrev s : State
   s = state_of j
 
-  -- a job that gathers
-  pub short : (c : Counts) → c ≡ counts s → j.standing ≡ Gathering → Collects K a b s d l r d l r (Err (Short c))
-  short c e is = record {
-    refusals = λ q h. (collects_short K a b s (length d) (length l) (length r) (ap stage_of is) ∙ ap (λ x. Err (Short x)) (sym e) ∙ answered q h, refl, refl, refl);
-    collected = λ h. no_answer h;
-    reduced = λ h. no_answer h;
-    by_rule = λ h. no_answer h;
-  }
-    where
-      answered : (q : Refusal) → ◌≡◌ {A = Result (Unit {0}) Refusal} (Err (Short c)) (Err q) → ◌≡◌ {A = Result Tables Refusal} (Err (Short c)) (Err q)
-      answered q h = cc
-
   -- a settled job, into tables with room
   module _ (laws : Laws K) (is : j.standing ≡ Settled) (sound : Sound K a b j) (d_long : length d ≡ 256) (l_long : length l ≡ 256) (r_long : length r ≡ 256) (long : length j.reduction.divisor ≡ 256) (left_long : length j.reduction.left ≡ 256) (right_long : length j.reduction.right ≡ 256) where
     settles : Settles K a b j

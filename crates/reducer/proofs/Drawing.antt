@@ -51,12 +51,3 @@ going_empty K a b n s₀ w₀ s drawn w w' c ok (e, e') ce g = record {
   over_field = λ only. g.over_field only ∙ ap (draw_on (pair_of K a b) s drawn n) e ∙ ap (λ x. either x (outcome s [] drawn) (outcome s [] drawn (Err (Empty (counts s))))) ok ∙ ap₂ (λ l x. outcome s l drawn (Err (Empty x))) (sym e') ce;
   over_kind = subst (λ (x : Outcome). Draws K n s₀ 0 w₀ x) (ap₂ (λ l x. outcome s l drawn (Err (Empty x))) (sym e') ce) (g.over_kind _ (subst (λ (l : List ℕ). Draws K n s drawn l (outcome s [] drawn (Err (Empty (counts s))))) (sym e) (empty s drawn ok)));
 }
-
--- a run of a job that was not settled before
-pub runs_drawn : (K : Arithmetic) (a b : List ℕ) (s : State) (n : ℕ) (w : List ℕ) (end : Outcome) → ¬ (s.stage ≡ settled) → Drawing K a b s n w end → Runs K a b s n w end
-runs_drawn K a b s n w end fresh d = record { over_field = λ only. by_stage s.stage fresh ∙ d.over_field only; settled_before = λ e. absurd (fresh e); over_kind = λ _. d.over_kind }
-  where
-    by_stage : (t : Stage) → ¬ (t ≡ settled) → elim t [ void r ↦ draw_on (pair_of K a b) s 0 n w | settled ↦ outcome s w 0 (Err (Settled 0)) | gathering ↦ draw_on (pair_of K a b) s 0 n w ] ≡ draw_on (pair_of K a b) s 0 n w
-    by_stage gathering h = refl
-    by_stage settled h = absurd (h refl)
-    by_stage (void r) h = refl

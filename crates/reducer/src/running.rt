@@ -26,14 +26,15 @@ fn cause_to_stop(job: &Job, drawn: u64, draws: u64) -> Option<Result<(), Refusal
     }
 }
 
-// Draws and offers until there is a cause to stop. Counted by hand: it is looked for before each draw and once more after the last, where a range of draws has ended.
+// Draws and offers until there is a cause to stop. Counted by hand: that is looked for once more after the last draw, where a range of draws would have ended.
 fn draw_points<K: Coefficients, S: Source>(
     kind: &K,
     job: &mut Job,
     source: &mut S,
     draws: u64,
 ) -> Ran
-    ensures { (a b : List ℕ) → Sound (K.Coefficients.arithmetic kind.now) a b job.old → Drawing (K.Coefficients.arithmetic kind.now) a b (state_of job.old) draws (S.Source.waiting source.old) (outcome (state_of job.new) (S.Source.waiting source.new) result.drawn result.ending) × Sound (K.Coefficients.arithmetic kind.now) a b job.new }
+    ensures drawing { (a b : List ℕ) → Sound (K.Coefficients.arithmetic kind.now) a b job.old → Drawing (K.Coefficients.arithmetic kind.now) a b (state_of job.old) draws (S.Source.waiting source.old) (outcome (state_of job.new) (S.Source.waiting source.new) result.drawn result.ending) }
+    ensures sound { (a b : List ℕ) → Sound (K.Coefficients.arithmetic kind.now) a b job.old → Sound (K.Coefficients.arithmetic kind.now) a b job.new }
 {
     let mut drawn = 0;
     'drawing: loop {
@@ -58,7 +59,8 @@ pub fn run_job<K: Coefficients, S: Source>(
     source: &mut S,
     draws: u64,
 ) -> Ran
-    ensures { (a b : List ℕ) → Sound (K.Coefficients.arithmetic kind.now) a b job.old → Runs (K.Coefficients.arithmetic kind.now) a b (state_of job.old) draws (S.Source.waiting source.old) (outcome (state_of job.new) (S.Source.waiting source.new) result.drawn result.ending) × Sound (K.Coefficients.arithmetic kind.now) a b job.new }
+    ensures ran { (a b : List ℕ) → Sound (K.Coefficients.arithmetic kind.now) a b job.old → Runs (K.Coefficients.arithmetic kind.now) a b (state_of job.old) draws (S.Source.waiting source.old) (outcome (state_of job.new) (S.Source.waiting source.new) result.drawn result.ending) }
+    ensures sound { (a b : List ℕ) → Sound (K.Coefficients.arithmetic kind.now) a b job.old → Sound (K.Coefficients.arithmetic kind.now) a b job.new }
 {
     if let Standing::Settled = job.standing {
         return Ran {
