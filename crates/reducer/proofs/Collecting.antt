@@ -1,18 +1,16 @@
 -- What is collected from a job, by the rule.
-use Rattle.std.proofs.Common.{◌≡◌, ℕ, List, length, Ok, Err, Result, sym, refl, ap, ◌∙◌, subst, arith}
+use Rattle.std.proofs.Common.{◌≡◌, ℕ, List, length, Ok, Err, Result, sym, ap, ◌∙◌, subst, arith}
 use Rattle.coefficients.specs.Arithmetic.{Arithmetic, Laws, IsField}
-use Rattle.rules.specs.declared.counts.Counts.{Counts}
 use Rattle.rules.specs.declared.refusal.Refusal.{Refusal}
-use Rattle.rules.specs.declared.refusal.Refusal.TheVariants.{Short}
-use Rattle.rules.specs.Job.{settled, State, counts}
+use Rattle.rules.specs.Job.{settled, State}
 use Rattle.rules.specs.Run.{Call, play}
 use Rattle.rulebook.specs.Pairs.{pair_of}
 use Rattle.rulebook.specs.Opening.{open_rule}
 use Rattle.rulebook.specs.Collecting.{Tables, collected, collect_rule}
 use Rattle.rulebook.specs.Law.{Whole, Answers}
-use Rattle.rulebook.proofs.Collecting.{collects_short, collects}
+use Rattle.rulebook.proofs.Collecting.{collects}
 use Rattle.rulebook.proofs.Law.{law_over}
-use Rattle.reducer.specs.declared.standing.Standing.TheVariants.{Gathering, Settled}
+use Rattle.reducer.specs.declared.standing.Standing.TheVariants.{Settled}
 use Rattle.reducer.specs.declared.job.Job.{Job}
 use Rattle.reducer.specs.State.{stage_of, state_of}
 use Rattle.reducer.specs.Sound.{Settles, SoundAs, Sound}

@@ -1,16 +1,16 @@
 -- A run, draw by draw.
-use Rattle.std.proofs.Common.{◌≡◌, ℕ, suc, ◌+◌, Bool, true, false, cond, leb, List, [], ◌∷◌, Some, None, Ok, Err, Result, sym, refl, ap, ◌∙◌, subst, ap₂, add-one, arith, eq-eqb}
+use Rattle.std.proofs.Common.{◌≡◌, ℕ, suc, ◌+◌, Bool, true, false, cond, leb, List, [], ◌∷◌, Some, None, Ok, Err, Result, sym, ap, ◌∙◌, subst, ap₂, add-one, arith, eq-eqb}
 use Rattle.coefficients.specs.Arithmetic.{Arithmetic, IsField}
 use Rattle.rules.specs.declared.answer.Answer.{Answer}
 use Rattle.rules.specs.declared.counts.Counts.{Counts}
 use Rattle.rules.specs.declared.refusal.Refusal.{Refusal}
-use Rattle.rules.specs.declared.refusal.Refusal.TheVariants.{Settled, Full, Spent, Empty}
+use Rattle.rules.specs.declared.refusal.Refusal.TheVariants.{Full, Spent, Empty}
 use Rattle.rules.specs.Job.{Pair, limit, Stage, gathering, settled, void, State, counts}
 use Rattle.rules.specs.Offer.{offer}
 use Rattle.rules.specs.Run.{stop, go, check, Outcome, outcome, either, draw_on}
 use Rattle.rulebook.specs.Pairs.{pair_of}
 use Rattle.points.specs.Waiting.{Drawn}
-use Rattle.reducer.specs.Promises.{Offered, Draws, stops, empty, draws, Drawing, Runs}
+use Rattle.reducer.specs.Promises.{Offered, Draws, stops, empty, draws, Drawing}
 
 -- the run has come from the job s₀ and the list w₀ to s and w, with so many points drawn
 pub record Going (K : Arithmetic) (a b : List ℕ) (n : ℕ) (s₀ : State) (w₀ : List ℕ) (s : State) (drawn : ℕ) (w : List ℕ) : Type 0 where

@@ -5,7 +5,6 @@ use Rattle.rules.specs.declared.answer.Answer.{Answer}
 use Rattle.rules.specs.declared.refusal.Refusal.{Refusal}
 use Rattle.rules.specs.Job.{limit, Stage, State}
 use Rattle.rules.specs.Offer.{member, too_high, raised}
-use Rattle.tables.specs.declared.faults.DivisionFault.{DivisionFault}
 use Rattle.steps.specs.declared.look.ImageRows.{ImageRows}
 use Rattle.steps.specs.Look.{ImagesOf, Looking}
 use Rattle.reducer.specs.declared.job.Job.{Job}

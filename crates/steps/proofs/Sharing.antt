@@ -2,20 +2,17 @@
 use Rattle.std.proofs.Common.{◌≡◌, ℕ, zero, suc, List, Ok, Err, ap, ◌∙◌, inl, arith}
 use Rattle.coefficients.specs.Arithmetic.{Arithmetic, Laws, IsField}
 use Rattle.coefficients.specs.declared.kind.ReciprocalFault.{ReciprocalFault}
-use Rattle.coefficients.specs.declared.kind.ReciprocalFault.TheVariants.{NoReciprocal}
 use Rattle.algebra.specs.Ring.{zero_mul}
 use Rattle.polynomials.specs.Elements.{polynomial, polynomials}
 use Rattle.polynomials.specs.Relations.{MonicGcd}
 use Rattle.polynomials.specs.Rows.{Inside, Sized}
-use Rattle.polynomials.specs.Steps.{Common, Stuck, Undivided}
+use Rattle.polynomials.specs.Steps.{Common, Undivided}
 use Rattle.polynomials.proofs.Meaning.{cleared}
 use Rattle.polynomials.proofs.Inverse.{stuck}
 use Rattle.tables.specs.declared.faults.DivisionFault.{DivisionFault}
 use Rattle.tables.specs.declared.faults.DivisionFault.TheVariants.{Reciprocal, Uneven}
 use Rattle.tables.specs.Content.{Even}
-use Rattle.steps.specs.declared.share.Shares.{Shares}
-use Rattle.steps.specs.Faults.{Faulty}
-use Rattle.steps.specs.Share.{SharesOf, Sharing}
+use Rattle.steps.specs.Share.{Sharing}
 
 -- zero divides only zero
 divided_zero : {K : Arithmetic} (laws : Laws K) (a b d : List ℕ) → MonicGcd laws a b d → polynomial laws d ≡ (polynomials laws).zero → polynomial laws a ≡ (polynomials laws).zero

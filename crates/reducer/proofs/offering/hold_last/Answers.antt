@@ -1,4 +1,4 @@
-use Rattle.std.proofs.Common.{◌≡◌, ◌<◌, length, arith, rules}
+use Rattle.std.proofs.Common.{◌<◌, arith}
 use Rattle.reducer.proofs.Completing.{passed_settled, failed_overturned, blocked_void}
 use Rattle.reducer.proofs.offering.hold_last.Goals as goal
 

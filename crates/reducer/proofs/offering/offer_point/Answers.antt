@@ -1,6 +1,4 @@
-use Rattle.std.proofs.Common.{◌≡◌, length, subst, arith, rules}
-use Rattle.reducer.specs.declared.offering.Class.{Class}
-use Rattle.reducer.specs.Holding.{Classed}
+use Rattle.std.proofs.Common.{◌≡◌, length, arith, rules}
 use Rattle.reducer.proofs.Offers.{counts_of, void_offered, full_offered, late_offered, foreign_offered, repeated_offered, vanishing_offered, high_offered, stuck_offered}
 use Rattle.reducer.proofs.Sounds.{gathering_sound}
 use Rattle.reducer.proofs.offering.offer_point.Goals as goal

@@ -1,5 +1,4 @@
-use Rattle.std.proofs.Common.{ℕ, ◌+◌, ◌-◌, ◌*◌, arith}
-use lib.ListN.{length-replicate}
+use Rattle.std.proofs.Common.{◌+◌, ◌-◌, ◌*◌, arith}
 use Rattle.steps.proofs.Reading.{copied_more}
 use Rattle.steps.proofs.answer.narrow.Goals as goal
 
