@@ -118,10 +118,10 @@ module _ {K : Arithmetic} (laws : Laws K) (a b : List ℕ) (j : Job) (k : ℕ) (
       )
 
 -- The point is written in the last place: the job j₁ is j with it.
-module _ {K : Arithmetic} (a b : List ℕ) (j : Job) (α : ℕ) (rows : ImageRows) (fit : Fitting K a b j α rows) (long : length j.points ≡ 31) (few : j.counts.held < 31) (below : j.counts.held < j.workings.closing) (n : ℕ) (n_is : n ≡ cond (ltb rows.degree j.level) 0 j.counts.held) (closes : n + 1 ≡ j.workings.closing) (some : ¬ (rows.degree ≡ 0))
-    (images' : Factored 496) (w : Written j.images n rows.rows images') where
+module _ {K : Arithmetic} (a b : List ℕ) (j : Job) (α : ℕ) (image : ImageRows) (fit : Fitting K a b j α image) (long : length j.points ≡ 31) (few : j.counts.held < 31) (below : j.counts.held < j.workings.closing) (n : ℕ) (n_is : n ≡ cond (ltb image.degree j.level) 0 j.counts.held) (closes : n + 1 ≡ j.workings.closing) (some : ¬ (image.degree ≡ 0))
+    (images' : Factored 496) (w : Written j.images n image.rows images') where
   abbrev k : ℕ
-  k = rows.degree
+  k = image.degree
 
   all : n ≡ j.counts.held
   all = let le = kept_some j k n n_is few in omega arith

@@ -32,8 +32,8 @@ abbrev pub Classed : Arithmetic → Job → (α : ℕ) → Class → Type 0
 Classed K j α Class.Foreign = K.element α ≡ false
 Classed K j α Class.Repeated = (K.element α ≡ true) × (member α (state_of j).held ≡ true)
 Classed K j α Class.Vanishing = Fresh K j α × Looking K j.workings α (Ok None)
-Classed K j α (Class.High k) = Fresh K j α × (too_high (state_of j) k ≡ true) × ((rows : ImageRows) × (rows.degree ≡ k) × Looking K j.workings α (Ok (Some rows)))
-Classed K j α (Class.Fitting rows) = Fresh K j α × (too_high (state_of j) rows.degree ≡ false) × Looking K j.workings α (Ok (Some rows))
+Classed K j α (Class.High k) = Fresh K j α × (too_high (state_of j) k ≡ true) × ((image : ImageRows) × (image.degree ≡ k) × Looking K j.workings α (Ok (Some image)))
+Classed K j α (Class.Fitting image) = Fresh K j α × (too_high (state_of j) image.degree ≡ false) × Looking K j.workings α (Ok (Some image))
 Classed K j α (Class.Stuck e) = Fresh K j α × Looking K j.workings α (Err e)
 
 -- the workings, points and images of the job stand
@@ -61,12 +61,12 @@ moved j stage ceiling level gone held = record {
 }
 
 -- A point α that can be held by a job for the tables a and b, with its images.
-pub record Fitting (K : Arithmetic) (a b : List ℕ) (j : Job) (α : ℕ) (rows : ImageRows) : Type 0 where
+pub record Fitting (K : Arithmetic) (a b : List ℕ) (j : Job) (α : ℕ) (image : ImageRows) : Type 0 where
   pub standing : j.standing ≡ Standing.Gathering
   pub gathers : Gathers K a b j
   pub fresh : Fresh K j α
-  pub low : too_high (state_of j) rows.degree ≡ false
-  pub images : ImagesOf K a b α rows.degree rows.rows.divisor rows.rows.left rows.rows.right
+  pub low : too_high (state_of j) image.degree ≡ false
+  pub images : ImagesOf K a b α image.degree image.rows.divisor image.rows.left image.rows.right
 
 -- what an offer of α makes of the job j, for all tables of which it is sound
 abbrev pub Promised : Arithmetic → (Fits : (a b : List ℕ) → Type 0) → Job → (α : ℕ) → Job → Result Answer Refusal → Type 0

@@ -78,8 +78,8 @@ fn class_of<K: Coefficients>(kind: &K, job: &Job, point: u64) -> Class
     }
     match look(kind, &job.workings, point) {
         Ok(None) => Class::Vanishing,
-        Ok(Some(rows)) if is_high(job, rows.degree) => Class::High(rows.degree),
-        Ok(Some(rows)) => Class::Fitting(rows),
+        Ok(Some(image)) if is_high(job, image.degree) => Class::High(image.degree),
+        Ok(Some(image)) => Class::Fitting(image),
         Err(fault) => Class::Stuck(fault),
     }
 }
@@ -166,16 +166,11 @@ fn keep(job: &mut Job, kept: usize, degree: usize) -> Answer
     job.counts = accept(job.counts, dropped, kept as u64 + 1);
     job.level = degree;
     job.standing = Standing::Gathering;
+    let degree = degree as u64;
     if dropped == 0 {
-        Answer::Held {
-            degree: degree as u64,
-            dropped,
-        }
+        Answer::Held { degree, dropped }
     } else {
-        Answer::Lowered {
-            degree: degree as u64,
-            dropped,
-        }
+        Answer::Lowered { degree, dropped }
     }
 }
 
@@ -185,19 +180,19 @@ fn hold_constant<K: Coefficients>(
     job: &mut Job,
     point: u64,
     kept: usize,
-    rows: &ImageRows,
+    image: &ImageRows,
 ) -> Result<Answer, Refusal>
     requires room { job.old.counts.offered < limit }
     requires place { kept < 31 }
-    requires kept { kept ≡ (if nat_lt rows.now.degree job.old.level then 0 else job.old.counts.held) }
-    requires constant { rows.now.degree ≡ 0 }
-    ensures { Promised (K.arithmetic kind.now) (λ a b. Fitting (K.arithmetic kind.now) a b job.old point rows.now) job.old point job.new result }
+    requires kept { kept ≡ (if nat_lt image.now.degree job.old.level then 0 else job.old.counts.held) }
+    requires constant { image.now.degree ≡ 0 }
+    ensures { Promised (K.arithmetic kind.now) (λ a b. Fitting (K.arithmetic kind.now) a b job.old point image.now) job.old point job.new result }
 {
     match reduce_free(kind, &job.workings) {
         Ok(reduction) => {
             job.points[kept] = point;
-            put_images(&mut job.images, kept, &rows.rows);
-            Ok(settle(job, kept, rows.degree, reduction))
+            put_images(&mut job.images, kept, &image.rows);
+            Ok(settle(job, kept, image.degree, reduction))
         }
         Err(fault) => Err(make_void(job, fault)),
     }
@@ -229,23 +224,23 @@ fn hold<K: Coefficients>(
     kind: &K,
     job: &mut Job,
     point: u64,
-    rows: &ImageRows,
+    image: &ImageRows,
 ) -> Result<Answer, Refusal>
     requires standing { job.old.standing ≡ Stands.Gathering }
     requires room { job.old.counts.offered < limit }
-    ensures { Promised (K.arithmetic kind.now) (λ a b. Fitting (K.arithmetic kind.now) a b job.old point rows.now) job.old point job.new result }
+    ensures { Promised (K.arithmetic kind.now) (λ a b. Fitting (K.arithmetic kind.now) a b job.old point image.now) job.old point job.new result }
 {
     let held = job.counts.held as usize;
-    let kept = if rows.degree < job.level { 0 } else { held };
-    if rows.degree == 0 {
-        return hold_constant(kind, job, point, kept, rows);
+    let kept = if image.degree < job.level { 0 } else { held };
+    if image.degree == 0 {
+        return hold_constant(kind, job, point, kept, image);
     }
     job.points[kept] = point;
-    put_images(&mut job.images, kept, &rows.rows);
+    put_images(&mut job.images, kept, &image.rows);
     if kept + 1 == job.workings.closing {
-        hold_last(kind, job, rows.degree)
+        hold_last(kind, job, image.degree)
     } else {
-        Ok(keep(job, kept, rows.degree))
+        Ok(keep(job, kept, image.degree))
     }
 }
 
@@ -280,7 +275,7 @@ pub fn offer_point<K: Coefficients>(kind: &K, job: &mut Job, point: u64) -> Resu
                 degree: degree as u64,
             })
         }
-        (Phase::Gathering, Class::Fitting(rows)) => hold(kind, job, point, &rows),
+        (Phase::Gathering, Class::Fitting(image)) => hold(kind, job, point, &image),
         (Phase::Gathering, Class::Stuck(fault)) => Err(make_void(job, fault)),
     }
 }
