@@ -1,6 +1,6 @@
 // What an offer does to a job: first what the point is found to be, then what comes of it.
 // The kind is lent beside the job: a state copies it out before it lends the job to be changed.
-// Each step asks for room for one more offer in a clause: a type that has the fact and lends the job would hold a `&mut` beside a ghost field, of which nothing is proved.
+// Each step asks for room for one more offer in a clause: a type that lends the job with that fact would still owe it when the offer is counted.
 ghost use Rattle.std.specs.Prelude.{◌≡◌, ℕ, ◌+◌, ◌-◌, ◌<◌, ◌≤◌, List, if◌then◌else◌, nat_eq, nat_lt, slice_index};
 ghost use Rattle.rules.specs.Job.{limit, gathering, settled, void};
 ghost use Rattle.rules.specs.Offer.{too_high, counting};
@@ -81,6 +81,17 @@ fn class_of<K: Coefficients>(kind: &K, job: &Job, point: u64) -> Class
         Ok(Some(image)) if is_high(job, image.degree) => Class::High(image.degree),
         Ok(Some(image)) => Class::Fitting(image),
         Err(fault) => Class::Stuck(fault),
+    }
+}
+
+// How many of the held points are kept beside one of this degree: none where theirs is higher.
+fn kept_beside(job: &Job, degree: usize) -> usize
+    ensures { result ≡ (if nat_lt degree job.now.level then 0 else job.now.counts.held) }
+{
+    if degree < job.level {
+        0
+    } else {
+        job.counts.held as usize
     }
 }
 
@@ -230,8 +241,7 @@ fn hold<K: Coefficients>(
     requires room { job.old.counts.offered < limit }
     ensures { Promised (K.arithmetic kind.now) (λ a b. Fitting (K.arithmetic kind.now) a b job.old point image.now) job.old point job.new result }
 {
-    let held = job.counts.held as usize;
-    let kept = if image.degree < job.level { 0 } else { held };
+    let kept = kept_beside(job, image.degree);
     if image.degree == 0 {
         return hold_constant(kind, job, point, kept, image);
     }
