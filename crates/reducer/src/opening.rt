@@ -105,16 +105,8 @@ fn begin(standing: Standing, workings: Workings, ceiling: usize) -> Job
         counts: NONE,
         workings,
         points: [0; 31],
-        images: Factored {
-            divisor: [0; 496],
-            left: [0; 496],
-            right: [0; 496],
-        },
-        reduction: Reduction {
-            divisor: [0; 256],
-            left: [0; 256],
-            right: [0; 256],
-        },
+        images: Factored::zeros(),
+        reduction: Reduction::zeros(),
     }
 }
 

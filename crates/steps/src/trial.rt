@@ -19,11 +19,7 @@ pub fn join_images<K: Coefficients>(
 ) -> Result<JoinedRows, DivisionFault>
     ensures { Joins (K.arithmetic kind.now) images.now.points.now images.now.divisors.now images.now.lefts.now images.now.rights.now result }
 {
-    let mut joined = JoinedRows {
-        divisor: [0; 512],
-        left: [0; 512],
-        right: [0; 512],
-    };
+    let mut joined = JoinedRows::zeros();
     join(kind, images.points, images.divisors, &mut joined.divisor)?;
     join(kind, images.points, images.lefts, &mut joined.left)?;
     join(kind, images.points, images.rights, &mut joined.right)?;
