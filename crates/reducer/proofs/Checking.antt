@@ -98,7 +98,7 @@ module _ {K : Arithmetic} (laws : Laws K) (a b : List ℕ) (passed : opening K a
   no_refusal r e = let z : ◌≡◌ {A = ℕ} 0 1 = cc in absurd (omega arith)
 
   -- the tables are prepared
-  module _ (w : Workings) (prepared : Preparing K a b (Ok w)) (j : Job) (begun : Begun Gathering w w.ceiling j) where
+  module _ (w : Workings) (prepared : Preparing K a b (Ok w)) (j : Job) (begun : Begun Gathering w j) where
     workings : WorkingsOf K a b w
     workings = prepared.1 tables.A_inside tables.B_inside
 

@@ -93,14 +93,14 @@ const NONE: Counts = Counts {
 };
 
 // A job that begins.
-fn begin(standing: Standing, workings: Workings, ceiling: usize) -> Job
+fn begin(standing: Standing, workings: Workings) -> Job
     requires room { wanted standing 0 ≤ workings.closing }
     requires closes { workings.closing ≤ 31 }
-    ensures { Begun standing workings ceiling result }
+    ensures { Begun standing workings result }
 {
     Job {
         standing,
-        ceiling,
+        ceiling: workings.ceiling,
         level: 0,
         counts: NONE,
         workings,
@@ -129,7 +129,7 @@ fn refuse(refusal: Refusal) -> Job
         closing: 0,
         ceiling: 0,
     };
-    begin(Standing::Void(refusal), workings, 0)
+    begin(Standing::Void(refusal), workings)
 }
 
 // Opens a job for two tables.
@@ -141,7 +141,7 @@ pub fn open_job<K: Coefficients>(kind: &K, a: &[u64], b: &[u64]) -> Job
         return refuse(refusal);
     }
     match prepare(kind, a, b) {
-        Ok(workings) => begin(Standing::Gathering, workings, workings.ceiling),
+        Ok(workings) => begin(Standing::Gathering, workings),
         Err(fault) => refuse(Refusal::NoField {
             element: named_element(fault),
             stage: Stage::Opening,
