@@ -9,7 +9,7 @@ use Rattle.rules.specs.Offer.{too_high, held_with, let_go, settles, stays, by_te
 use Rattle.rulebook.specs.Pairs.{pair_of}
 use Rattle.rulebook.proofs.Opening.{openable}
 use Rattle.tables.specs.declared.faults.DivisionFault.{DivisionFault}
-use Rattle.steps.specs.declared.answer.Reduction.{Reduction}
+use Rattle.steps.specs.declared.factored.Factored.{Factored}
 use Rattle.steps.specs.Look.{ImagesOf}
 use Rattle.steps.specs.Prepare.{WorkingsOf}
 use Rattle.steps.specs.Faults.{Faulty}
@@ -62,13 +62,13 @@ module _ {K : Arithmetic} (laws : Laws K) (a b : List ℕ) (j : Job) (α k : ℕ
       (found K (image k) passed n) (found_owed K (image k) passed n (not_blocked K k) (not_blocked_test K)) (refl, refl) (λ only. (field_image only, field only)) (λ only. five)
 
   -- a fault on the way makes the job void
-  pub void_offered : (j' : Job) (x : DivisionFault) (c : ℕ) (q : Refusal) → Faulty K x → c ≡ element_of x → q ≡ Refusal.NoField c Stage.Offer → state_of j' ≡ moved j (void q) j.ceiling j.level 0 j.counts.held → j'.standing ≡ Standing.Void q → Offered K a b s α (state_of j') (Err q) × Sound K a b j'
+  pub void_offered : (j' : Job) (x : DivisionFault) (q : Refusal) → Faulty K x → q ≡ Refusal.NoField (element_of x) Stage.Offer → state_of j' ≡ moved j (void q) j.ceiling j.level 0 j.counts.held → j'.standing ≡ Standing.Void q → Offered K a b s α (state_of j') (Err q) × Sound K a b j'
   unfolding found
-  void_offered j' x c q faulty is qe se st =
-      let lacks : Lacks K c = subst (Lacks K) (sym is) (faulty_lacks K x faulty) in (
+  void_offered j' x q faulty qe se st =
+      let c : ℕ = element_of x in (
         build a b s α (state_of j') (Err q) (λ pair. pair.at_point α ≡ blocked c)
             (λ pair el f. offer_stuck pair s α (ap stage_of standing) room (el α ∙ fresh.element) fresh.apart c f ∙ ap (λ (y : Refusal). (moved j (void y) j.ceiling j.level 0 j.counts.held, Err y)) (sym qe) ∙ ap (λ (t : State). (t, Err q)) (sym se))
-            (found K (blocked c) passed 0) (found_owed K (blocked c) passed 0 (λ y f. let same : c ≡ y = cc in subst (Lacks K) same lacks) (not_blocked_test K)) refl (λ only. absurd (faulty_field K x faulty only)) (λ only. absurd (faulty_field K x faulty only)),
+            (found K (blocked c) passed 0) (found_owed K (blocked c) passed 0 (λ y f. let same : c ≡ y = cc in subst (Lacks K) same (faulty_lacks K x faulty)) (not_blocked_test K)) refl (λ only. absurd (faulty_field K x faulty only)) (λ only. absurd (faulty_field K x faulty only)),
         sound_void K a b j' q st (λ only. absurd (faulty_field K x faulty only)),
       )
 
@@ -80,7 +80,7 @@ module _ {K : Arithmetic} (laws : Laws K) (a b : List ℕ) (j : Job) (α k : ℕ
     gone = gone_number j k n n_is few long
 
     -- the job is settled by an image of degree 0
-    pub constant_settled : k ≡ 0 → (j' : Job) (answer : Answer) (reduction : Reduction) → Free K j.workings (Ok reduction) → state_of j' ≡ written j n α settled j.ceiling k (j.counts.held - n) (n + 1) → j'.standing ≡ Standing.Settled → j'.reduction ≡ reduction → answer ≡ Answer.Settled k (j.counts.held - n) →
+    pub constant_settled : k ≡ 0 → (j' : Job) (answer : Answer) (reduction : Factored 256) → Free K j.workings (Ok reduction) → state_of j' ≡ written j n α settled j.ceiling k (j.counts.held - n) (n + 1) → j'.standing ≡ Standing.Settled → j'.reduction ≡ reduction → answer ≡ Answer.Settled k (j.counts.held - n) →
         Offered K a b s α (state_of j') (Ok answer) × Sound K a b j'
     constant_settled z j' answer reduction free se st re ae =
         let can = openable laws a b g.opens in (
@@ -89,19 +89,19 @@ module _ {K : Arithmetic} (laws : Laws K) (a b : List ℕ) (j : Job) (α k : ℕ
         )
 
     -- a fault in reading off the answer
-    pub constant_void : k ≡ 0 → (j' : Job) (x : DivisionFault) (c : ℕ) (q : Refusal) → Free K j.workings (Err x) → c ≡ element_of x → q ≡ Refusal.NoField c Stage.Offer → state_of j' ≡ moved j (void q) j.ceiling j.level 0 j.counts.held → j'.standing ≡ Standing.Void q → Offered K a b s α (state_of j') (Err q) × Sound K a b j'
-    constant_void z j' x c q free is qe se st =
+    pub constant_void : k ≡ 0 → (j' : Job) (x : DivisionFault) (q : Refusal) → Free K j.workings (Err x) → q ≡ Refusal.NoField (element_of x) Stage.Offer → state_of j' ≡ moved j (void q) j.ceiling j.level 0 j.counts.held → j'.standing ≡ Standing.Void q → Offered K a b s α (state_of j') (Err q) × Sound K a b j'
+    constant_void z j' x q free qe se st =
         let can = openable laws a b g.opens in
-        void_offered j' x c q (free a b can.A_inside can.B_inside can.A_long can.B_long g.workings (free_of_x a b α k d l r z images)) is qe se st
+        void_offered j' x q (free a b can.A_inside can.B_inside can.A_long can.B_long g.workings (free_of_x a b α k d l r z images)) qe se st
 
     -- the point is held
-    pub stays_held : ¬ (k ≡ 0) → ¬ (n + 1 ≡ j.workings.closing) → (ds' ls' rs' : List ℕ) → Holds K a b k (n + 1) (set j.points n α) ds' ls' rs' → (j' : Job) (answer : Answer) →
+    pub stays_held : ¬ (k ≡ 0) → ¬ (n + 1 ≡ j.workings.closing) → (images' : Factored 496) → Holds K a b k (n + 1) (set j.points n α) images' → (j' : Job) (answer : Answer) →
         state_of j' ≡ written j n α gathering j.ceiling k (j.counts.held - n) (n + 1) → j'.standing ≡ Standing.Gathering → answer ≡ cond (eqb (j.counts.held - n) 0) (Answer.Held k (j.counts.held - n)) (Answer.Lowered k (j.counts.held - n)) →
-        j'.workings ≡ j.workings → j'.level ≡ k → j'.counts.held ≡ n + 1 → j'.points ≡ set j.points n α → j'.divisors ≡ ds' → j'.lefts ≡ ls' → j'.rights ≡ rs' → Offered K a b s α (state_of j') (Ok answer) × Sound K a b j'
-    stays_held some fewer ds' ls' rs' holds j' answer se st ae we le he pe de e₁ e₂ = (
+        j'.workings ≡ j.workings → j'.level ≡ k → j'.counts.held ≡ n + 1 → j'.points ≡ set j.points n α → j'.images ≡ images' → Offered K a b s α (state_of j') (Ok answer) × Sound K a b j'
+    stays_held some fewer images' holds j' answer se st ae we le he pe ie = (
       stays_offered j.workings.closing some (λ q. fewer (sym number ∙ ap length with ∙ q)) (λ only. found_closing laws only a b g.opens j.workings g.workings) (state_of j') (Ok answer)
           (ap₂ (λ x y. conclude s k x y stays) (sym with) (sym gone) ∙ ap₂ (λ (x : State) (y : Answer). (x, Ok y)) (sym se) (sym ae)) tt,
-      sound_gathering K a b j' st (record { opens = g.opens; workings = subst (WorkingsOf K a b) (sym we) g.workings; holds = holds_kept (sym le) (sym he) (sym pe) (sym de) (sym e₁) (sym e₂) holds }),
+      sound_gathering K a b j' st (record { opens = g.opens; workings = subst (WorkingsOf K a b) (sym we) g.workings; holds = holds_kept (sym le) (sym he) (sym pe) (sym ie) holds }),
     )
       where
         number : length (take (n + 1) (set j.points n α)) ≡ n + 1

@@ -98,7 +98,7 @@ module _ {K : Arithmetic} (laws : Laws K) (a b : List ℕ) (passed : opening K a
   no_refusal r e = let z : ◌≡◌ {A = ℕ} 0 1 = cc in absurd (omega arith)
 
   -- the tables are prepared
-  module _ (w : Workings) (prepared : Preparing K a b (Ok w)) (j : Job) (begun : Begun Gathering w w.ceiling j) where
+  module _ (w : Workings) (prepared : Preparing K a b (Ok w)) (j : Job) (begun : Begun Gathering w j) where
     workings : WorkingsOf K a b w
     workings = prepared.1 tables.A_inside tables.B_inside
 
@@ -115,14 +115,14 @@ module _ {K : Arithmetic} (laws : Laws K) (a b : List ℕ) (passed : opening K a
       over_kind = λ e. inl (w.ceiling, begun.state);
     }
 
-    nothing : Holds K a b j.level 0 j.points j.divisors j.lefts j.rights
-    nothing = record { inside = λ i h. absurd (omega arith); distinct = tt; images = λ i h. absurd (omega arith) }
+    nothing : Holds K a b j.level 0 j.points j.images
+    nothing = record { inside = λ i h. absurd (omega arith); distinct = tt; are_images = λ i h. absurd (omega arith) }
 
     gathers : Gathers K a b j
     gathers = record {
       opens = passed;
       workings = subst (WorkingsOf K a b) (sym begun.works) workings;
-      holds = subst (λ (n : ℕ). Holds K a b j.level n j.points j.divisors j.lefts j.rights) (sym begun.none) nothing;
+      holds = subst (λ (n : ℕ). Holds K a b j.level n j.points j.images) (sym begun.none) nothing;
     }
 
     pub begun_sound : Sound K a b j

@@ -1,18 +1,16 @@
 -- What is collected from a job, by the rule.
-use Rattle.std.proofs.Common.{◌≡◌, ℕ, List, length, Ok, Err, Result, sym, refl, ap, ◌∙◌, subst, arith}
+use Rattle.std.proofs.Common.{◌≡◌, ℕ, List, length, Ok, Err, Result, sym, ap, ◌∙◌, subst, arith}
 use Rattle.coefficients.specs.Arithmetic.{Arithmetic, Laws, IsField}
-use Rattle.rules.specs.declared.counts.Counts.{Counts}
 use Rattle.rules.specs.declared.refusal.Refusal.{Refusal}
-use Rattle.rules.specs.declared.refusal.Refusal.TheVariants.{Short}
-use Rattle.rules.specs.Job.{settled, State, counts}
+use Rattle.rules.specs.Job.{settled, State}
 use Rattle.rules.specs.Run.{Call, play}
 use Rattle.rulebook.specs.Pairs.{pair_of}
 use Rattle.rulebook.specs.Opening.{open_rule}
 use Rattle.rulebook.specs.Collecting.{Tables, collected, collect_rule}
 use Rattle.rulebook.specs.Law.{Whole, Answers}
-use Rattle.rulebook.proofs.Collecting.{collects_short, collects}
+use Rattle.rulebook.proofs.Collecting.{collects}
 use Rattle.rulebook.proofs.Law.{law_over}
-use Rattle.reducer.specs.declared.standing.Standing.TheVariants.{Gathering, Settled}
+use Rattle.reducer.specs.declared.standing.Standing.TheVariants.{Settled}
 use Rattle.reducer.specs.declared.job.Job.{Job}
 use Rattle.reducer.specs.State.{stage_of, state_of}
 use Rattle.reducer.specs.Sound.{Settles, SoundAs, Sound}
@@ -25,18 +23,6 @@ module _ (K : Arithmetic) (a b : List ℕ) (j : Job) (d l r : List ℕ) where
   abbrev s : State
   s = state_of j
 
-  -- a job that gathers
-  pub short : (c : Counts) → c ≡ counts s → j.standing ≡ Gathering → Collects K a b s d l r d l r (Err (Short c))
-  short c e is = record {
-    refusals = λ q h. (collects_short K a b s (length d) (length l) (length r) (ap stage_of is) ∙ ap (λ x. Err (Short x)) (sym e) ∙ answered q h, refl, refl, refl);
-    collected = λ h. no_answer h;
-    reduced = λ h. no_answer h;
-    by_rule = λ h. no_answer h;
-  }
-    where
-      answered : (q : Refusal) → ◌≡◌ {A = Result (Unit {0}) Refusal} (Err (Short c)) (Err q) → ◌≡◌ {A = Result Tables Refusal} (Err (Short c)) (Err q)
-      answered q h = cc
-
   -- a settled job, into tables with room
   module _ (laws : Laws K) (is : j.standing ≡ Settled) (sound : Sound K a b j) (d_long : length d ≡ 256) (l_long : length l ≡ 256) (r_long : length r ≡ 256) (long : length j.reduction.divisor ≡ 256) (left_long : length j.reduction.left ≡ 256) (right_long : length j.reduction.right ≡ 256) where
     settles : Settles K a b j
@@ -46,13 +32,13 @@ module _ (K : Arithmetic) (a b : List ℕ) (j : Job) (d l r : List ℕ) where
     stage_is = ap stage_of is
 
     divisor_whole : Whole K j.reduction.divisor
-    divisor_whole = record { long = long; inside = settles.reduction.divisor_in }
+    divisor_whole = record { long = long; inside = settles.reduction.elements.divisor_in }
 
     left_whole : Whole K j.reduction.left
-    left_whole = record { long = left_long; inside = settles.reduction.left_in }
+    left_whole = record { long = left_long; inside = settles.reduction.elements.left_in }
 
     right_whole : Whole K j.reduction.right
-    right_whole = record { long = right_long; inside = settles.reduction.right_in }
+    right_whole = record { long = right_long; inside = settles.reduction.elements.right_in }
 
     given : collect_rule K a b s (length d) (length l) (length r) ≡ Ok (collected K a b s)
     given = collects K a b s (length d) (length l) (length r) stage_is d_long l_long r_long

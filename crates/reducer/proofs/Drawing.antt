@@ -1,24 +1,21 @@
 -- A run, draw by draw.
-use Rattle.std.proofs.Common.{◌≡◌, ℕ, suc, ◌+◌, Bool, true, false, cond, leb, List, [], ◌∷◌, Some, None, Ok, Err, Result, sym, refl, ap, ◌∙◌, subst, ap₂, add-one, arith, eq-eqb}
+use Rattle.std.proofs.Common.{◌≡◌, ℕ, suc, ◌+◌, Bool, true, false, cond, leb, List, [], ◌∷◌, Some, None, Ok, Err, Result, sym, ap, ◌∙◌, subst, ap₂, add-one, arith, eq-eqb}
 use Rattle.coefficients.specs.Arithmetic.{Arithmetic, IsField}
 use Rattle.rules.specs.declared.answer.Answer.{Answer}
 use Rattle.rules.specs.declared.counts.Counts.{Counts}
 use Rattle.rules.specs.declared.refusal.Refusal.{Refusal}
-use Rattle.rules.specs.declared.refusal.Refusal.TheVariants.{Settled, Full, Spent, Empty}
+use Rattle.rules.specs.declared.refusal.Refusal.TheVariants.{Full, Spent, Empty}
 use Rattle.rules.specs.Job.{Pair, limit, Stage, gathering, settled, void, State, counts}
 use Rattle.rules.specs.Offer.{offer}
 use Rattle.rules.specs.Run.{stop, go, check, Outcome, outcome, either, draw_on}
 use Rattle.rulebook.specs.Pairs.{pair_of}
 use Rattle.points.specs.Waiting.{Drawn}
-use Rattle.reducer.specs.Promises.{Offered, Draws, stops, empty, draws, Drawing, Runs}
+use Rattle.reducer.specs.Promises.{Offered, Draws, stops, empty, draws, Drawing}
 
 -- the run has come from the job s₀ and the list w₀ to s and w, with so many points drawn
 pub record Going (K : Arithmetic) (a b : List ℕ) (n : ℕ) (s₀ : State) (w₀ : List ℕ) (s : State) (drawn : ℕ) (w : List ℕ) : Type 0 where
   pub over_field : IsField K → draw_on (pair_of K a b) s₀ 0 n w₀ ≡ draw_on (pair_of K a b) s drawn n w
   pub over_kind : (end : Outcome) → Draws K n s drawn w end → Draws K n s₀ 0 w₀ end
-
-pub going_none : (K : Arithmetic) (a b : List ℕ) (n : ℕ) (s : State) (w : List ℕ) → Going K a b n s w s 0 w
-going_none K a b n s w = record { over_field = λ only. refl; over_kind = λ end d. d }
 
 -- where a run goes on, its draws are not spent
 pub drawn_fewer : (s : State) (drawn n : ℕ) → check s drawn n ≡ go → ¬ (drawn ≡ n)
@@ -54,16 +51,3 @@ going_empty K a b n s₀ w₀ s drawn w w' c ok (e, e') ce g = record {
   over_field = λ only. g.over_field only ∙ ap (draw_on (pair_of K a b) s drawn n) e ∙ ap (λ x. either x (outcome s [] drawn) (outcome s [] drawn (Err (Empty (counts s))))) ok ∙ ap₂ (λ l x. outcome s l drawn (Err (Empty x))) (sym e') ce;
   over_kind = subst (λ (x : Outcome). Draws K n s₀ 0 w₀ x) (ap₂ (λ l x. outcome s l drawn (Err (Empty x))) (sym e') ce) (g.over_kind _ (subst (λ (l : List ℕ). Draws K n s drawn l (outcome s [] drawn (Err (Empty (counts s))))) (sym e) (empty s drawn ok)));
 }
-
--- a run of a job that was not settled before
-pub runs_drawn : (K : Arithmetic) (a b : List ℕ) (s : State) (n : ℕ) (w : List ℕ) (end : Outcome) → ¬ (s.stage ≡ settled) → Drawing K a b s n w end → Runs K a b s n w end
-runs_drawn K a b s n w end fresh d = record { over_field = λ only. by_stage s.stage fresh ∙ d.over_field only; settled_before = λ e. absurd (fresh e); over_kind = λ _. d.over_kind }
-  where
-    by_stage : (t : Stage) → ¬ (t ≡ settled) → elim t [ void r ↦ draw_on (pair_of K a b) s 0 n w | settled ↦ outcome s w 0 (Err (Settled 0)) | gathering ↦ draw_on (pair_of K a b) s 0 n w ] ≡ draw_on (pair_of K a b) s 0 n w
-    by_stage gathering h = refl
-    by_stage settled h = absurd (h refl)
-    by_stage (void r) h = refl
-
--- a run of a settled job
-pub runs_settled : (K : Arithmetic) (a b : List ℕ) (s : State) (n : ℕ) (w : List ℕ) → s.stage ≡ settled → Runs K a b s n w (outcome s w 0 (Err (Settled 0)))
-runs_settled K a b s n w e = record { over_field = λ only. rw e refl; settled_before = λ _. refl; over_kind = λ h. absurd (h e) }

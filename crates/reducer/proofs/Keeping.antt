@@ -8,11 +8,12 @@ use Rattle.algebra.specs.Lists.{All, Distinct}
 use Rattle.polynomials.specs.Rows.{cut_row}
 use Rattle.rules.specs.Job.{State}
 use Rattle.rules.specs.Offer.{member, any, too_high, let_go, held_with}
+use Rattle.steps.specs.declared.factored.Factored.{Factored}
 use Rattle.steps.specs.Look.{ImagesOf}
 use Rattle.steps.specs.Trial.{Gathered}
 use Rattle.reducer.specs.declared.job.Job.{Job}
 use Rattle.reducer.specs.State.{state_of}
-use Rattle.reducer.specs.Held.{Placed}
+use Rattle.reducer.specs.Held.{Written}
 use Rattle.reducer.specs.Sound.{Holds}
 use Rattle.reducer.proofs.Places.{any_take}
 use Rattle.reducer.proofs.Sounds.{holds_kept}
@@ -66,47 +67,47 @@ images_same {K = K} {a = a} {b = b} {k = k} {α = α} {α' = α'} {d = d} {d' = 
     subst (λ (v : List ℕ). ImagesOf K a b α' k d' l' v) z (subst (λ (v : List ℕ). ImagesOf K a b α' k d' v r) y (subst (λ (v : List ℕ). ImagesOf K a b α' k v l r) x (subst (λ (v : ℕ). ImagesOf K a b v k d l r) e t)))
 
 -- the first n points and one more, with its images
-pub holds_more : {K : Arithmetic} (a b : List ℕ) (k n : ℕ) (points ds ls rs ds' ls' rs' : List ℕ) (α : ℕ) (d l r : List ℕ) → n < length points → Holds K a b k n points ds ls rs → K.element α ≡ true → member α (take n points) ≡ false → ImagesOf K a b α k d l r →
-    Placed ds n d ds' → Placed ls n l ls' → Placed rs n r rs' → Holds K a b k (n + 1) (set points n α) ds' ls' rs'
-holds_more {K = K} a b k n points ds ls rs ds' ls' rs' α d l r lt h αi fresh images pd pl pr = record {
+pub holds_more : {K : Arithmetic} (a b : List ℕ) (k n : ℕ) (points : List ℕ) (images images' : Factored 496) (α : ℕ) (rows : Factored 16) → n < length points → Holds K a b k n points images → K.element α ≡ true → member α (take n points) ≡ false → ImagesOf K a b α k rows.divisor rows.left rows.right →
+    Written images n rows images' → Holds K a b k (n + 1) (set points n α) images'
+holds_more {K = K} a b k n points images images' α rows lt h αi fresh new w = record {
   inside = λ i le. inside i le (cases_eq i n);
   distinct = subst Distinct (sym (take_more n points α lt)) (distinct_more (take n points) α h.distinct (apart_all α (take n points) fresh));
-  images = λ i le. at i le (cases_eq i n);
+  are_images = λ i le. at i le (cases_eq i n);
 }
   where
     inside : (i : ℕ) → i < n + 1 → (i ≡ n) ⊎ (¬ (i ≡ n)) → K.element (get_or (set points n α) i 0) ≡ true
     inside i le (inl e) = ap (λ m. K.element (get_or (set points n α) m 0)) e ∙ ap K.element (set_here n points α lt) ∙ αi
     inside i le (inr ne) = ap K.element (set_other n i points α ne) ∙ h.inside i (omega arith)
 
-    at : (i : ℕ) → i < n + 1 → (i ≡ n) ⊎ (¬ (i ≡ n)) → ImagesOf K a b (get_or (set points n α) i 0) k (cut_row 16 ds' i) (cut_row 16 ls' i) (cut_row 16 rs' i)
-    at i le (inl e) = images_same (sym (ap (λ m. get_or (set points n α) m 0) e ∙ set_here n points α lt)) (sym (ap (cut_row 16 ds') e ∙ pd.here)) (sym (ap (cut_row 16 ls') e ∙ pl.here)) (sym (ap (cut_row 16 rs') e ∙ pr.here)) images
-    at i le (inr ne) = images_same (sym (set_other n i points α ne)) (sym (pd.others i ne)) (sym (pl.others i ne)) (sym (pr.others i ne)) (h.images i (omega arith))
+    at : (i : ℕ) → i < n + 1 → (i ≡ n) ⊎ (¬ (i ≡ n)) → ImagesOf K a b (get_or (set points n α) i 0) k (cut_row 16 images'.divisor i) (cut_row 16 images'.left i) (cut_row 16 images'.right i)
+    at i le (inl e) = images_same (sym (ap (λ m. get_or (set points n α) m 0) e ∙ set_here n points α lt)) (sym (ap (cut_row 16 images'.divisor) e ∙ w.divisor.here)) (sym (ap (cut_row 16 images'.left) e ∙ w.left.here)) (sym (ap (cut_row 16 images'.right) e ∙ w.right.here)) new
+    at i le (inr ne) = images_same (sym (set_other n i points α ne)) (sym (w.divisor.others i ne)) (sym (w.left.others i ne)) (sym (w.right.others i ne)) (h.are_images i (omega arith))
 
 -- the first n points, where one more is written behind them
-pub holds_less : {K : Arithmetic} (a b : List ℕ) (k n : ℕ) (points ds ls rs ds' ls' rs' : List ℕ) (α : ℕ) (d l r : List ℕ) → Holds K a b k n points ds ls rs → Placed ds n d ds' → Placed ls n l ls' → Placed rs n r rs' → Holds K a b k n (set points n α) ds' ls' rs'
-holds_less {K = K} a b k n points ds ls rs ds' ls' rs' α d l r h pd pl pr = record {
+pub holds_less : {K : Arithmetic} (a b : List ℕ) (k n : ℕ) (points : List ℕ) (images images' : Factored 496) (α : ℕ) (rows : Factored 16) → Holds K a b k n points images → Written images n rows images' → Holds K a b k n (set points n α) images'
+holds_less {K = K} a b k n points images images' α rows h w = record {
   inside = λ i lt. ap K.element (set_other n i points α (apart i lt)) ∙ h.inside i lt;
   distinct = subst Distinct (sym (take_less n points α)) h.distinct;
-  images = λ i lt. let ne = apart i lt in images_same (sym (set_other n i points α ne)) (sym (pd.others i ne)) (sym (pl.others i ne)) (sym (pr.others i ne)) (h.images i lt);
+  are_images = λ i lt. let ne = apart i lt in images_same (sym (set_other n i points α ne)) (sym (w.divisor.others i ne)) (sym (w.left.others i ne)) (sym (w.right.others i ne)) (h.are_images i lt);
 }
   where
     apart : (i : ℕ) → i < n → ¬ (i ≡ n)
     apart i lt e = absurd (omega arith)
 
 -- nothing is held
-pub holds_none : {K : Arithmetic} (a b : List ℕ) (k : ℕ) (points ds ls rs : List ℕ) → Holds K a b k 0 points ds ls rs
-holds_none a b k points ds ls rs = record { inside = λ i lt. absurd (omega arith); distinct = tt; images = λ i lt. absurd (omega arith) }
+pub holds_none : {K : Arithmetic} (a b : List ℕ) (k : ℕ) (points : List ℕ) (images : Factored 496) → Holds K a b k 0 points images
+holds_none a b k points images = record { inside = λ i lt. absurd (omega arith); distinct = tt; are_images = λ i lt. absurd (omega arith) }
 
 -- the first n rows of 16 codes, and one of them
 first_row : (n i : ℕ) (t : List ℕ) → i < n → cut_row 16 (take (16 * n) t) i ≡ cut_row 16 t i
 first_row n i t lt = sym (drop-take (16 * i) 16 (take (16 * n) t)) ∙ ap (drop (16 * i)) (take-take (16 * i + 16) (16 * n) t (omega arith)) ∙ drop-take (16 * i) 16 t
 
 -- the first n points with their images, by themselves
-pub gathered_first : {K : Arithmetic} (a b : List ℕ) (k n : ℕ) (points ds ls rs : List ℕ) → n ≤ length points → 16 * n ≤ length ds → 16 * n ≤ length ls → 16 * n ≤ length rs → Holds K a b k n points ds ls rs → Gathered K a b k (take n points) (take (16 * n) ds) (take (16 * n) ls) (take (16 * n) rs)
-gathered_first {K = K} a b k n points ds ls rs lp ld ll lr h = record {
+pub gathered_first : {K : Arithmetic} (a b : List ℕ) (k n : ℕ) (points : List ℕ) (f : Factored 496) → n ≤ length points → Holds K a b k n points f → Gathered K a b k (take n points) (take (16 * n) f.divisor) (take (16 * n) f.left) (take (16 * n) f.right)
+gathered_first {K = K} a b k n points f lp h = record {
   inside = λ i lt. let le = below i lt in ap K.element (get_or-take n points i 0 le) ∙ h.inside i le;
   distinct = h.distinct;
-  images = λ i lt. let le = below i lt in images_same (sym (get_or-take n points i 0 le)) (sym (first_row n i ds le)) (sym (first_row n i ls le)) (sym (first_row n i rs le)) (h.images i le);
+  images = λ i lt. let le = below i lt in images_same (sym (get_or-take n points i 0 le)) (sym (first_row n i f.divisor le)) (sym (first_row n i f.left le)) (sym (first_row n i f.right le)) (h.are_images i le);
 }
   where
     below : (i : ℕ) → i < length (take n points) → i < n
@@ -142,17 +143,17 @@ module _ (j : Job) (k n : ℕ) (n_is : n ≡ cond (ltb k j.level) 0 j.counts.hel
       go false e = omega arith
 
   -- what is held with the new point, all of one degree
-  pub holds_with : {K : Arithmetic} (a b : List ℕ) (α : ℕ) (d l r ds' ls' rs' : List ℕ) → length j.points ≡ 31 → Holds K a b j.level j.counts.held j.points j.divisors j.lefts j.rights → K.element α ≡ true → member α s.held ≡ false → too_high s k ≡ false →
-      ImagesOf K a b α k d l r → Placed j.divisors n d ds' → Placed j.lefts n l ls' → Placed j.rights n r rs' → Holds K a b k (n + 1) (set j.points n α) ds' ls' rs'
-  holds_with {K = K} a b α d l r ds' ls' rs' long h αi fresh low images pd pl pr = go (ltb k j.level) refl n_is
+  pub holds_with : {K : Arithmetic} (a b : List ℕ) (α : ℕ) (rows : Factored 16) (images' : Factored 496) → length j.points ≡ 31 → Holds K a b j.level j.counts.held j.points j.images → K.element α ≡ true → member α s.held ≡ false → too_high s k ≡ false →
+      ImagesOf K a b α k rows.divisor rows.left rows.right → Written j.images n rows images' → Holds K a b k (n + 1) (set j.points n α) images'
+  holds_with {K = K} a b α rows images' long h αi fresh low new w = go (ltb k j.level) refl n_is
     where
-      more : Holds K a b k n j.points j.divisors j.lefts j.rights → member α (take n j.points) ≡ false → Holds K a b k (n + 1) (set j.points n α) ds' ls' rs'
-      more x f = holds_more a b k n j.points j.divisors j.lefts j.rights ds' ls' rs' α d l r (let le = kept_some in omega arith) x αi f images pd pl pr
+      more : Holds K a b k n j.points j.images → member α (take n j.points) ≡ false → Holds K a b k (n + 1) (set j.points n α) images'
+      more x f = holds_more a b k n j.points j.images images' α rows (let le = kept_some in omega arith) x αi f new w
 
       -- where points are held and kept, the degree is theirs
-      same : (m : ℕ) → m ≡ j.counts.held → ltb k j.level ≡ false → Holds K a b k m j.points j.divisors j.lefts j.rights
-      same zero e f = holds_none a b k j.points j.divisors j.lefts j.rights
-      same (suc m) e f = holds_kept (level_is (leb j.ceiling k) (any (take j.counts.held j.points)) (any_take j.counts.held j.points (omega arith) (omega arith)) (ltb j.level k) refl low) (sym e) refl refl refl refl h
+      same : (m : ℕ) → m ≡ j.counts.held → ltb k j.level ≡ false → Holds K a b k m j.points j.images
+      same zero e f = holds_none a b k j.points j.images
+      same (suc m) e f = holds_kept (level_is (leb j.ceiling k) (any (take j.counts.held j.points)) (any_take j.counts.held j.points (omega arith) (omega arith)) (ltb j.level k) refl low) (sym e) refl refl h
         where
           level_is : (x y : Bool) → y ≡ true → (z : Bool) → ltb j.level k ≡ z → (x || (y && z)) ≡ false → j.level ≡ k
           level_is true y ye z ze q = let w : ◌≡◌ {A = ℕ} 0 1 = cc in absurd (omega arith)
@@ -160,6 +161,6 @@ module _ (j : Job) (k n : ℕ) (n_is : n ≡ cond (ltb k j.level) 0 j.counts.hel
           level_is false true ye false ze q = let u = ltb-false j.level k ze in let v = ltb-false k j.level f in omega arith
           level_is false false ye z ze q = let w : ◌≡◌ {A = ℕ} 0 1 = cc in absurd (omega arith)
 
-      go : (t : Bool) → ltb k j.level ≡ t → n ≡ cond t 0 j.counts.held → Holds K a b k (n + 1) (set j.points n α) ds' ls' rs'
-      go true t e = more (holds_kept refl (sym e) refl refl refl refl (holds_none a b k j.points j.divisors j.lefts j.rights)) (ap (λ m. member α (take m j.points)) e)
+      go : (t : Bool) → ltb k j.level ≡ t → n ≡ cond t 0 j.counts.held → Holds K a b k (n + 1) (set j.points n α) images'
+      go true t e = more (holds_kept refl (sym e) refl refl (holds_none a b k j.points j.images)) (ap (λ m. member α (take m j.points)) e)
       go false t e = more (same n e t) (ap (λ m. member α (take m j.points)) e ∙ fresh)

@@ -7,13 +7,14 @@ use Rattle.rules.specs.declared.refusal.Refusal.{Refusal}
 use Rattle.rules.specs.declared.refusal.Stage.TheVariants as Stage
 use Rattle.rules.specs.Job.{Finding, zero_lead, image, blocked, Tested, passed, blocked_test, Pair, limit, void, State, counts}
 use Rattle.rules.specs.Offer.{member, counting, offer}
+use Rattle.tables.specs.declared.faults.DivisionFault.{DivisionFault}
 use Rattle.rulebook.specs.Pairs.{pair_of}
 use Rattle.rulebook.proofs.Right.{pair_element}
 use Rattle.reducer.specs.declared.standing.Standing.{Standing}
 use Rattle.reducer.specs.declared.job.Job.{Job}
 use Rattle.reducer.specs.declared.counting.Tallied.TheVariants as Tallied
 use Rattle.reducer.specs.State.{stage_of, tallied, state_of}
-use Rattle.reducer.specs.Sound.{Sound, Lacks}
+use Rattle.reducer.specs.Sound.{Sound, element_of, Lacks}
 use Rattle.reducer.specs.Promises.{Owed, NotFive, Offered}
 use Rattle.reducer.specs.Holding.{Classed, Kept, moved}
 use Rattle.reducer.specs.declared.offering.Class.TheVariants as Class
@@ -103,18 +104,18 @@ module _ {K : Arithmetic} (laws : Laws K) (a b : List ℕ) (j : Job) (α : ℕ) 
           let g = gathering_sound K a b j e sound in
           counted _ _ se (build a b s α _ _ (λ pair. pair.at_point α ≡ image k) (λ pair el f. offer_high pair s α (ap stage_of e) lt (el α ∙ fresh.element) fresh.apart k f high)
           (found K (image k) passed 0) (found_owed K (image k) passed 0 (not_blocked K k) (not_blocked_test K)) refl
-          (λ only. found_image laws only a b g.opens α rows.degree rows.divisor rows.left rows.right fresh.element (look a b g.workings fresh.element) ∙ ap image is) (λ only five. absurd (omega arith)))
+          (λ only. found_image laws only a b g.opens α rows.degree rows.rows.divisor rows.rows.left rows.rows.right fresh.element (look a b g.workings fresh.element) ∙ ap image is) (λ only five. absurd (omega arith)))
 
-  -- an element without a reciprocal makes the job void
-  pub stuck_offered : (j' : Job) (c : ℕ) (r : Refusal) → j.standing ≡ Standing.Gathering → j.counts.offered < limit → Classed K j α (Class.Stuck c) → r ≡ Refusal.NoField c Stage.Offer →
+  -- a fault makes the job void
+  pub stuck_offered : (j' : Job) (x : DivisionFault) (r : Refusal) → j.standing ≡ Standing.Gathering → j.counts.offered < limit → Classed K j α (Class.Stuck x) → r ≡ Refusal.NoField (element_of x) Stage.Offer →
       state_of j' ≡ moved j (void r) j.ceiling j.level 0 j.counts.held → j'.standing ≡ Standing.Void r → Offered K a b s α (state_of j') (Err r) × Sound K a b j'
   unfolding found
-  stuck_offered j' c r e lt (fresh, (x, is, look)) re se st =
+  stuck_offered j' x r e lt (fresh, look) re se st =
       let g = gathering_sound K a b j e sound in
       let faulty = look a b g.workings fresh.element in
-      let lacks : Lacks K c = subst (Lacks K) (sym is) (faulty_lacks K x faulty) in (
+      let c : ℕ = element_of x in (
         build a b s α (state_of j') (Err r) (λ pair. pair.at_point α ≡ blocked c)
             (λ pair el f. offer_stuck pair s α (ap stage_of e) lt (el α ∙ fresh.element) fresh.apart c f ∙ ap (λ (q : Refusal). (moved j (void q) j.ceiling j.level 0 j.counts.held, Err q)) (sym re) ∙ ap (λ (t : State). (t, Err r)) (sym se))
-            (found K (blocked c) passed 0) (found_owed K (blocked c) passed 0 (λ d f. let same : c ≡ d = cc in subst (Lacks K) same lacks) (not_blocked_test K)) refl (λ only. absurd (faulty_field K x faulty only)) (λ only. absurd (faulty_field K x faulty only)),
+            (found K (blocked c) passed 0) (found_owed K (blocked c) passed 0 (λ d f. let same : c ≡ d = cc in subst (Lacks K) same (faulty_lacks K x faulty)) (not_blocked_test K)) refl (λ only. absurd (faulty_field K x faulty only)) (λ only. absurd (faulty_field K x faulty only)),
         sound_void K a b j' r st (λ only. absurd (faulty_field K x faulty only)),
       )

@@ -1,24 +1,21 @@
 -- The held points and the rows beside them: looking for one, and writing one.
 use borrow.Rule.Slice.PartMut.{put_mid}
-use Rattle.std.proofs.Common.{◌≡◌, ℕ, zero, suc, ◌+◌, ◌-◌, ◌*◌, ◌<◌, ◌≤◌, true, false, ◌||◌, ◌⊎◌, List, [], ◌∷◌, length, get_or, take, drop, sym, refl, ap, ◌∙◌, subst, inl, inr, add-one, arith, drop-cons, eq-eqb, ne_eqb}
-use Rattle.std.proofs.lemmas.List.{drop-take, drop_all}
+use Rattle.std.proofs.Common.{◌≡◌, ℕ, zero, suc, ◌+◌, ◌-◌, ◌*◌, ◌<◌, ◌≤◌, true, ◌||◌, eqb, ◌⊎◌, List, [], ◌∷◌, length, take, drop, sym, refl, ap, ap₂, ◌∙◌, subst, inl, inr, arith, ne_eqb}
+use Rattle.std.proofs.lemmas.List.{drop-take}
 use Rattle.std.proofs.lemmas.Slice.{take-put_mid_below, drop-put_mid, between-put_mid}
-use Rattle.std.proofs.lemmas.Bool.{cases_lt}
+use Rattle.std.proofs.lemmas.Bool.{cases_lt, cases_eq}
 use Rattle.polynomials.specs.Rows.{cut_row}
+use Rattle.std.specs.List.{list_any}
 use Rattle.rules.specs.Offer.{member, any}
 use Rattle.reducer.specs.Held.{Placed}
 
-drop_step : (i : ℕ) (xs : List ℕ) → i < length xs → drop i xs ≡ get_or xs i 0 ∷ drop (i + 1) xs
-drop_step i xs h = rw (add-one, drop-cons xs i 0)
+eqb_sym : (x y : ℕ) → eqb x y ≡ eqb y x
+eqb_sym x y = elim (cases_eq x y) [ inl e ↦ rw e refl | inr n ↦ ne_eqb x y n ∙ sym (ne_eqb y x (λ e. n (sym e))) ]
 
-pub member_here : (α i : ℕ) (xs : List ℕ) → i < length xs → get_or xs i 0 ≡ α → member α (drop i xs) ≡ true
-member_here α i xs h e = ap (member α) (drop_step i xs h) ∙ ap (λ t. t || member α (drop (i + 1) xs)) (eq-eqb α (get_or xs i 0) (sym e))
-
-pub member_past : (α i : ℕ) (xs : List ℕ) → i < length xs → ¬ (get_or xs i 0 ≡ α) → member α (drop i xs) ≡ member α (drop (i + 1) xs)
-member_past α i xs h n = ap (member α) (drop_step i xs h) ∙ ap (λ t. t || member α (drop (i + 1) xs)) (ne_eqb α (get_or xs i 0) (λ e. n (sym e)))
-
-pub member_end : (α i : ℕ) (xs : List ℕ) → length xs ≤ i → member α (drop i xs) ≡ false
-member_end α i xs h = ap (member α) (drop_all i xs h)
+-- looking for a point, in the words of the rules
+pub any_member : (α : ℕ) (xs : List ℕ) → list_any (λ x. eqb x α) xs ≡ member α xs
+any_member α [] = refl
+any_member α (x ∷ xs) = ap₂ ◌||◌ (eqb_sym x α) (any_member α xs)
 
 -- one of 31 rows of 16 codes is written
 pub placed : (t r : List ℕ) (i n : ℕ) → n ≡ 16 → length t ≡ 496 → length r ≡ 16 → i < 31 → Placed t i r (put_mid (16 * i) n t r)

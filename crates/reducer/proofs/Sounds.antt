@@ -3,6 +3,7 @@ use Rattle.std.proofs.Common.{◌≡◌, ℕ, ◌<◌, ◌≤◌, List, sym, sub
 use Rattle.coefficients.specs.Arithmetic.{Arithmetic, IsField}
 use Rattle.rules.specs.declared.refusal.Refusal.{Refusal}
 use Rattle.rules.specs.Numbers.{number}
+use Rattle.steps.specs.declared.factored.Factored.{Factored}
 use Rattle.steps.specs.Prepare.{WorkingsOf}
 use Rattle.steps.specs.Answer.{ReductionOf}
 use Rattle.reducer.specs.declared.standing.Standing.{Standing}
@@ -13,9 +14,9 @@ use Rattle.reducer.specs.Sound.{Holds, Gathers, Settles, SoundAs, Sound}
 use Rattle.reducer.specs.Holding.{Kept}
 
 -- what is held, in the same rows
-pub holds_kept : {K : Arithmetic} {a b : List ℕ} {k k' n n' : ℕ} {points points' ds ds' ls ls' rs rs' : List ℕ} → k ≡ k' → n ≡ n' → points ≡ points' → ds ≡ ds' → ls ≡ ls' → rs ≡ rs' → Holds K a b k n points ds ls rs → Holds K a b k' n' points' ds' ls' rs'
-holds_kept {K = K} {a = a} {b = b} {k' = k'} {n = n} {n' = n'} {points = points} {points' = points'} {ds = ds} {ds' = ds'} {ls = ls} {ls' = ls'} {rs = rs} e f p d l r h =
-    subst (λ (x : List ℕ). Holds K a b k' n' points' ds' ls' x) r (subst (λ (x : List ℕ). Holds K a b k' n' points' ds' x rs) l (subst (λ (x : List ℕ). Holds K a b k' n' points' x ls rs) d (subst (λ (x : List ℕ). Holds K a b k' n' x ds ls rs) p (subst (λ (x : ℕ). Holds K a b k' x points ds ls rs) f (subst (λ (x : ℕ). Holds K a b x n points ds ls rs) e h)))))
+pub holds_kept : {K : Arithmetic} {a b : List ℕ} {k k' n n' : ℕ} {points points' : List ℕ} {images images' : Factored 496} → k ≡ k' → n ≡ n' → points ≡ points' → images ≡ images' → Holds K a b k n points images → Holds K a b k' n' points' images'
+holds_kept {K = K} {a = a} {b = b} {k' = k'} {n = n} {n' = n'} {points = points} {points' = points'} {images = images} e f p i h =
+    subst (λ (x : Factored 496). Holds K a b k' n' points' x) i (subst (λ (x : List ℕ). Holds K a b k' n' x images) p (subst (λ (x : ℕ). Holds K a b k' x points images) f (subst (λ (x : ℕ). Holds K a b x n points images) e h)))
 
 module _ (K : Arithmetic) (a b : List ℕ) where
   pub sound_gathering : (j : Job) → j.standing ≡ Gathering → Gathers K a b j → Sound K a b j
@@ -35,7 +36,7 @@ module _ (K : Arithmetic) (a b : List ℕ) where
 
   -- a call that changes only counts
   gathers_kept : (j j' : Job) → Kept j j' → Gathers K a b j → Gathers K a b j'
-  gathers_kept j j' k g = record { opens = g.opens; workings = subst (WorkingsOf K a b) (sym k.rows.workings) g.workings; holds = holds_kept (sym k.level) (sym k.held) (sym k.rows.points) (sym k.rows.divisors) (sym k.rows.lefts) (sym k.rows.rights) g.holds }
+  gathers_kept j j' k g = record { opens = g.opens; workings = subst (WorkingsOf K a b) (sym k.rows.workings) g.workings; holds = holds_kept (sym k.level) (sym k.held) (sym k.rows.points) (sym k.rows.images) g.holds }
 
   settles_kept : (j j' : Job) → Kept j j' → Settles K a b j → Settles K a b j'
   settles_kept j j' k t = record { opens = t.opens; reduction = subst (ReductionOf K a b) (sym k.reduction) t.reduction }

@@ -41,11 +41,11 @@ Checked K a b (Ok u) = opening K a b ≡ None
 Checked K a b (Err r) = (opening K a b ≡ Some r) × (IsField K → ¬ (number r ≡ 5))
 
 -- `begin`: a job that holds nothing yet, with these workings
-pub record Begun (standing : Standing) (workings : Workings) (ceiling : ℕ) (j : Job) : Type 0 where
+pub record Begun (standing : Standing) (workings : Workings) (j : Job) : Type 0 where
   pub stands : j.standing ≡ standing
   pub works : j.workings ≡ workings
   pub none : j.counts.held ≡ 0
-  pub state : state_of j ≡ started (stage_of standing) ceiling
+  pub state : state_of j ≡ started (stage_of standing) workings.ceiling
 
 -- `refuse`: a void job
 pub record Voided (r : Refusal) (j : Job) : Type 0 where

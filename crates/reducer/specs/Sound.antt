@@ -7,6 +7,7 @@ use Rattle.polynomials.specs.Rows.{cut_row}
 use Rattle.rules.specs.Numbers.{number}
 use Rattle.tables.specs.declared.faults.DivisionFault.{DivisionFault}
 use Rattle.tables.specs.declared.faults.DivisionFault.TheVariants.{Reciprocal, Uneven}
+use Rattle.steps.specs.declared.factored.Factored.{Factored}
 use Rattle.steps.specs.Prepare.{WorkingsOf}
 use Rattle.steps.specs.Look.{ImagesOf}
 use Rattle.steps.specs.Answer.{ReductionOf}
@@ -16,16 +17,16 @@ use Rattle.reducer.specs.declared.standing.Standing.TheVariants.{Gathering, Sett
 use Rattle.reducer.specs.declared.job.Job.{Job}
 
 -- The first n points are different elements, and the rows beside them are the images of two tables there, all of degree k.
-pub record Holds (K : Arithmetic) (a b : List ℕ) (k n : ℕ) (points ds ls rs : List ℕ) : Type 0 where
+pub record Holds (K : Arithmetic) (a b : List ℕ) (k n : ℕ) (points : List ℕ) (images : Factored 496) : Type 0 where
   pub inside : (i : ℕ) → i < n → K.element (slice_index points i) ≡ true
   pub distinct : Distinct (take n points)
-  pub images : (i : ℕ) → i < n → ImagesOf K a b (slice_index points i) k (cut_row 16 ds i) (cut_row 16 ls i) (cut_row 16 rs i)
+  pub are_images : (i : ℕ) → i < n → ImagesOf K a b (slice_index points i) k (cut_row 16 images.divisor i) (cut_row 16 images.left i) (cut_row 16 images.right i)
 
 -- A job that gathers points for two tables.
 pub record Gathers (K : Arithmetic) (a b : List ℕ) (j : Job) : Type 0 where
   pub opens : opening K a b ≡ None
   pub workings : WorkingsOf K a b j.workings
-  pub holds : Holds K a b j.level j.counts.held j.points j.divisors j.lefts j.rights
+  pub holds : Holds K a b j.level j.counts.held j.points j.images
 
 -- A settled job for two tables.
 pub record Settles (K : Arithmetic) (a b : List ℕ) (j : Job) : Type 0 where

@@ -2,6 +2,7 @@
 ghost use Rattle.std.specs.Prelude.{◌≡◌, ℕ, ◌+◌, ◌<◌, ◌≤◌};
 ghost use Rattle.reducer.specs.Room.{classes};
 ghost use Rattle.reducer.specs.State.{tally_of, tallied};
+ghost use Rattle.rules.specs.Job.{limit};
 ghost use Rattle.rules.specs.Offer.{raised};
 
 use rules::counts::Counts;
@@ -18,11 +19,12 @@ pub enum Tallied {
 
 // One more offer, in a class.
 pub fn tally(counts: Counts, class: Tallied) -> Counts
-    requires { (counts.offered < 1048575) × (classes counts ≤ counts.offered) }
+    requires room { counts.offered < limit }
+    requires classed { classes counts ≤ counts.offered }
     ensures tally { tally_of result ≡ tallied class (tally_of counts) }
     ensures held { result.held ≡ counts.held }
     ensures classed { classes result ≤ result.offered }
-    ensures limited { result.offered ≤ 1048575 }
+    ensures limited { result.offered ≤ limit }
 {
     let mut now = counts;
     now.offered += 1;
@@ -38,11 +40,13 @@ pub fn tally(counts: Counts, class: Tallied) -> Counts
 
 // One more offer, after which so many points were let go and so many are held.
 pub fn accept(counts: Counts, gone: u64, held: u64) -> Counts
-    requires { (counts.offered < 1048575) × ((classes counts ≤ counts.offered) × (gone + held ≤ counts.held + 1)) }
+    requires room { counts.offered < limit }
+    requires classed { classes counts ≤ counts.offered }
+    requires fewer { gone + held ≤ counts.held + 1 }
     ensures tally { tally_of result ≡ raised (tally_of counts) 0 0 0 0 0 gone }
     ensures held { result.held ≡ held }
     ensures classed { classes result ≤ result.offered }
-    ensures limited { result.offered ≤ 1048575 }
+    ensures limited { result.offered ≤ limit }
 {
     let mut now = counts;
     now.offered += 1;

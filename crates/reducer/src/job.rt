@@ -1,32 +1,35 @@
 // The table of a job. What ties its codes to a kind stands in the promise of each call, and not here.
 ghost use Rattle.std.specs.Prelude.{◌≡◌, ◌≤◌, length};
+ghost use Rattle.rules.specs.Job.{limit};
 ghost use Rattle.reducer.specs.Room.{wanted, classes};
 
 use crate::standing::Standing;
 use rules::counts::Counts;
 use steps::answer::Reduction;
+use steps::factored::Factored;
 use steps::prepare::Workings;
+
+// No job takes more offers.
+pub const LIMIT: u64 = 1048575;
 
 #[derive(Drop)]
 pub struct Job {
-    pub standing: Standing,
+    pub(crate) standing: Standing,
     // No image of this degree or a higher one is held.
-    pub ceiling: usize,
+    pub(crate) ceiling: usize,
     // The degree of the held points, where any is held.
-    pub level: usize,
-    pub counts: Counts,
-    pub workings: Workings,
-    // The held points in order, and the images at them, 16 codes for each.
-    pub points: [u64; 31],
-    pub divisors: [u64; 496],
-    pub lefts: [u64; 496],
-    pub rights: [u64; 496],
+    pub(crate) level: usize,
+    pub(crate) counts: Counts,
+    pub(crate) workings: Workings,
+    // The held points in order, and the images at them, 16 codes for each: memory is fixed, so both stand here as arrays.
+    pub(crate) points: [u64; 31],
+    pub(crate) images: Factored<496>,
     // What is collected once the job is settled.
-    pub reduction: Reduction,
+    pub(crate) reduction: Reduction,
     ghost stored: { length points ≡ 31 },
     ghost few: { counts.held ≤ 31 },
     ghost room: { wanted standing counts.held ≤ workings.closing },
     ghost closes: { workings.closing ≤ 31 },
     ghost classed: { classes counts ≤ counts.offered },
-    ghost limited: { counts.offered ≤ 1048575 },
+    ghost limited: { counts.offered ≤ limit },
 }

@@ -5,9 +5,10 @@
 mod counting;
 mod faults;
 mod held;
-mod job;
+pub mod job;
 mod offering;
 mod opening;
+mod readings;
 mod running;
 pub mod standing;
 pub mod states;

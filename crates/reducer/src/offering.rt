@@ -1,4 +1,6 @@
 // What an offer does to a job: first what the point is found to be, then what comes of it.
+// The kind is lent beside the job: a state copies it out before it lends the job to be changed.
+// Each step asks for room for one more offer in a clause: a type that lends the job with that fact would still owe it when the offer is counted.
 ghost use Rattle.std.specs.Prelude.{◌≡◌, ℕ, ◌+◌, ◌-◌, ◌<◌, ◌≤◌, List, if◌then◌else◌, nat_eq, nat_lt, slice_index};
 ghost use Rattle.rules.specs.Job.{limit, gathering, settled, void};
 ghost use Rattle.rules.specs.Offer.{too_high, counting};
@@ -7,20 +9,22 @@ ghost use Rattle.rules.specs.declared.refusal.Stage.TheVariants as At;
 ghost use Rattle.rules.specs.declared.answer.Answer.TheVariants as Answered;
 ghost use Rattle.reducer.specs.declared.standing.Standing.TheVariants as Stands;
 ghost use Rattle.reducer.specs.State.{state_of, tallied};
-ghost use Rattle.reducer.specs.Sound.{Sound};
+ghost use Rattle.reducer.specs.Sound.{Sound, element_of};
 ghost use Rattle.reducer.specs.Holding.{Phased, Classed, SameRows, Kept, moved, Fitting, Promised, Complete};
 
 use crate::counting::{Tallied, accept, tally};
 use crate::faults::named_element;
-use crate::held::{is_among, put_images};
+use crate::held::put_images;
 use crate::job::Job;
 use crate::standing::Standing;
 use coefficients::kind::Coefficients;
 use rules::answer::Answer;
 use rules::refusal::{Refusal, Stage};
 use steps::answer::{Reduction, reduce_free};
-use steps::look::{Finding, ImageRows, look};
-use steps::verdict::{Verdict, decide};
+use steps::images::Images;
+use steps::look::{ImageRows, look};
+use steps::verdict::decide;
+use tables::faults::DivisionFault;
 
 // What a job is when a point is offered.
 #[derive(Clone, Copy)]
@@ -41,19 +45,18 @@ pub enum Class {
     High(usize),
     // It can be held.
     Fitting(ImageRows),
-    // An element without a reciprocal stood in the way, or 0.
-    Stuck(u64),
+    // A fault stood in the way, in a kind that is no field.
+    Stuck(DivisionFault),
 }
 
-// No job takes more than 1,048,575 offers.
 fn phase_of(job: &Job) -> Phase
     ensures { Phased job.now result }
 {
-    let full = job.counts.offered >= 1048575;
     match job.standing {
         Standing::Void(refusal) => Phase::Void(refusal),
-        Standing::Settled => { if full { Phase::Full } else { Phase::Settled } }
-        Standing::Gathering => { if full { Phase::Full } else { Phase::Gathering } }
+        _ if job.is_full() => Phase::Full,
+        Standing::Settled => Phase::Settled,
+        Standing::Gathering => Phase::Gathering,
     }
 }
 
@@ -70,19 +73,25 @@ fn class_of<K: Coefficients>(kind: &K, job: &Job, point: u64) -> Class
     if !kind.contains(point) {
         return Class::Foreign;
     }
-    if is_among(point, &job.points[..job.counts.held as usize]) {
+    if job.holds(point) {
         return Class::Repeated;
     }
     match look(kind, &job.workings, point) {
-        Finding::Vanishing => Class::Vanishing,
-        Finding::Image(rows) => {
-            if is_high(job, rows.degree) {
-                Class::High(rows.degree)
-            } else {
-                Class::Fitting(rows)
-            }
-        }
-        Finding::Blocked(fault) => Class::Stuck(named_element(fault)),
+        Ok(None) => Class::Vanishing,
+        Ok(Some(image)) if is_high(job, image.degree) => Class::High(image.degree),
+        Ok(Some(image)) => Class::Fitting(image),
+        Err(fault) => Class::Stuck(fault),
+    }
+}
+
+// How many of the held points are kept beside one of this degree: none where theirs is higher.
+fn kept_beside(job: &Job, degree: usize) -> usize
+    ensures { result ≡ (if nat_lt degree job.now.level then 0 else job.now.counts.held) }
+{
+    if degree < job.level {
+        0
+    } else {
+        job.counts.held as usize
     }
 }
 
@@ -95,15 +104,15 @@ fn count(job: &mut Job, class: Tallied)
     job.counts = tally(job.counts, class);
 }
 
-// An element without a reciprocal makes the job void.
-fn make_void(job: &mut Job, element: u64) -> Refusal
+// A fault makes the job void.
+fn make_void(job: &mut Job, fault: DivisionFault) -> Refusal
     requires { job.old.counts.offered < limit }
-    ensures answer { result ≡ Refused.NoField element At.Offer }
+    ensures answer { result ≡ Refused.NoField (element_of fault) At.Offer }
     ensures state { state_of job.new ≡ moved job.old (void result) job.old.ceiling job.old.level 0 job.old.counts.held }
     ensures standing { job.new.standing ≡ Stands.Void result }
 {
     let refusal = Refusal::NoField {
-        element,
+        element: named_element(fault),
         stage: Stage::Offer,
     };
     job.counts = accept(job.counts, 0, job.counts.held);
@@ -113,7 +122,9 @@ fn make_void(job: &mut Job, element: u64) -> Refusal
 
 // The job is settled with a point that is held after `kept` others.
 fn settle(job: &mut Job, kept: usize, degree: usize, reduction: Reduction) -> Answer
-    requires { (job.old.counts.offered < limit) × ((kept ≤ job.old.counts.held) × (kept < 31)) }
+    requires room { job.old.counts.offered < limit }
+    requires fewer { kept ≤ job.old.counts.held }
+    requires place { kept < 31 }
     ensures answer { result ≡ Answered.Settled degree (job.old.counts.held - kept) }
     ensures state { state_of job.new ≡ moved job.old settled job.old.ceiling degree (job.old.counts.held - kept) (kept + 1) }
     ensures standing { job.new.standing ≡ Stands.Settled }
@@ -132,7 +143,8 @@ fn settle(job: &mut Job, kept: usize, degree: usize, reduction: Reduction) -> An
 
 // All points are let go with this one, and no image of its degree is held any more.
 fn overturn(job: &mut Job, degree: usize) -> Answer
-    requires { (job.old.counts.offered < limit) × (1 ≤ job.old.workings.closing) }
+    requires room { job.old.counts.offered < limit }
+    requires closes { 1 ≤ job.old.workings.closing }
     ensures answer { result ≡ Answered.Overturned degree (job.old.counts.held + 1) }
     ensures state { state_of job.new ≡ moved job.old gathering degree degree (job.old.counts.held + 1) 0 }
     ensures held { job.new.counts.held ≡ 0 }
@@ -152,7 +164,9 @@ fn overturn(job: &mut Job, degree: usize) -> Answer
 
 // The point is held after `kept` others.
 fn keep(job: &mut Job, kept: usize, degree: usize) -> Answer
-    requires { (job.old.counts.offered < limit) × ((kept ≤ job.old.counts.held) × (kept + 1 < job.old.workings.closing)) }
+    requires room { job.old.counts.offered < limit }
+    requires fewer { kept ≤ job.old.counts.held }
+    requires open { kept + 1 < job.old.workings.closing }
     ensures answer { result ≡ (if nat_eq (job.old.counts.held - kept) 0 then Answered.Held degree (job.old.counts.held - kept) else Answered.Lowered degree (job.old.counts.held - kept)) }
     ensures state { state_of job.new ≡ moved job.old gathering job.old.ceiling degree (job.old.counts.held - kept) (kept + 1) }
     ensures held { job.new.counts.held ≡ kept + 1 }
@@ -163,16 +177,11 @@ fn keep(job: &mut Job, kept: usize, degree: usize) -> Answer
     job.counts = accept(job.counts, dropped, kept as u64 + 1);
     job.level = degree;
     job.standing = Standing::Gathering;
+    let degree = degree as u64;
     if dropped == 0 {
-        Answer::Held {
-            degree: degree as u64,
-            dropped,
-        }
+        Answer::Held { degree, dropped }
     } else {
-        Answer::Lowered {
-            degree: degree as u64,
-            dropped,
-        }
+        Answer::Lowered { degree, dropped }
     }
 }
 
@@ -182,47 +191,42 @@ fn hold_constant<K: Coefficients>(
     job: &mut Job,
     point: u64,
     kept: usize,
-    rows: &ImageRows,
+    image: &ImageRows,
 ) -> Result<Answer, Refusal>
-    requires room { (job.old.counts.offered < limit) × (kept < 31) }
-    requires kept { kept ≡ (if nat_lt rows.now.degree job.old.level then 0 else job.old.counts.held) }
-    requires constant { rows.now.degree ≡ 0 }
-    ensures { Promised (K.arithmetic kind.now) (λ a b. Fitting (K.arithmetic kind.now) a b job.old point rows.now) job.old point job.new result }
+    requires room { job.old.counts.offered < limit }
+    requires place { kept < 31 }
+    requires kept { kept ≡ (if nat_lt image.now.degree job.old.level then 0 else job.old.counts.held) }
+    requires constant { image.now.degree ≡ 0 }
+    ensures { Promised (K.arithmetic kind.now) (λ a b. Fitting (K.arithmetic kind.now) a b job.old point image.now) job.old point job.new result }
 {
     match reduce_free(kind, &job.workings) {
         Ok(reduction) => {
             job.points[kept] = point;
-            put_images(
-                &mut job.divisors,
-                &mut job.lefts,
-                &mut job.rights,
-                kept,
-                rows,
-            );
-            Ok(settle(job, kept, rows.degree, reduction))
+            put_images(&mut job.images, kept, &image.rows);
+            Ok(settle(job, kept, image.degree, reduction))
         }
-        Err(fault) => Err(make_void(job, named_element(fault))),
+        Err(fault) => Err(make_void(job, fault)),
     }
 }
 
 // As many points as the closing number, of which the last is not counted yet, are joined and tested.
 fn hold_last<K: Coefficients>(kind: &K, job: &mut Job, degree: usize) -> Result<Answer, Refusal>
-    requires { (job.old.counts.offered < limit) × (job.old.counts.held + 1 ≡ job.old.workings.closing) }
+    requires room { job.old.counts.offered < limit }
+    requires number { job.old.counts.held + 1 ≡ job.old.workings.closing }
     ensures { Promised (K.arithmetic kind.now) (λ a b. Complete (K.arithmetic kind.now) a b job.old degree) job.old (slice_index job.old.points job.old.counts.held) job.new result }
 {
     let held = job.counts.held as usize;
     let count = held + 1;
-    match decide(
-        kind,
-        &job.workings,
-        &job.points[..count],
-        &job.divisors[..16 * count],
-        &job.lefts[..16 * count],
-        &job.rights[..16 * count],
-    ) {
-        Verdict::Passed(reduction) => Ok(settle(job, held, degree, reduction)),
-        Verdict::Failed => Ok(overturn(job, degree)),
-        Verdict::Blocked(fault) => Err(make_void(job, named_element(fault))),
+    let images = Images {
+        points: &job.points[..count],
+        divisors: &job.images.divisor[..16 * count],
+        lefts: &job.images.left[..16 * count],
+        rights: &job.images.right[..16 * count],
+    };
+    match decide(kind, &job.workings, &images) {
+        Ok(Some(reduction)) => Ok(settle(job, held, degree, reduction)),
+        Ok(None) => Ok(overturn(job, degree)),
+        Err(fault) => Err(make_void(job, fault)),
     }
 }
 
@@ -231,28 +235,22 @@ fn hold<K: Coefficients>(
     kind: &K,
     job: &mut Job,
     point: u64,
-    rows: &ImageRows,
+    image: &ImageRows,
 ) -> Result<Answer, Refusal>
-    requires { (job.old.standing ≡ Stands.Gathering) × (job.old.counts.offered < limit) }
-    ensures { Promised (K.arithmetic kind.now) (λ a b. Fitting (K.arithmetic kind.now) a b job.old point rows.now) job.old point job.new result }
+    requires standing { job.old.standing ≡ Stands.Gathering }
+    requires room { job.old.counts.offered < limit }
+    ensures { Promised (K.arithmetic kind.now) (λ a b. Fitting (K.arithmetic kind.now) a b job.old point image.now) job.old point job.new result }
 {
-    let held = job.counts.held as usize;
-    let kept = if rows.degree < job.level { 0 } else { held };
-    if rows.degree == 0 {
-        return hold_constant(kind, job, point, kept, rows);
+    let kept = kept_beside(job, image.degree);
+    if image.degree == 0 {
+        return hold_constant(kind, job, point, kept, image);
     }
     job.points[kept] = point;
-    put_images(
-        &mut job.divisors,
-        &mut job.lefts,
-        &mut job.rights,
-        kept,
-        rows,
-    );
+    put_images(&mut job.images, kept, &image.rows);
     if kept + 1 == job.workings.closing {
-        hold_last(kind, job, rows.degree)
+        hold_last(kind, job, image.degree)
     } else {
-        Ok(keep(job, kept, rows.degree))
+        Ok(keep(job, kept, image.degree))
     }
 }
 
@@ -287,7 +285,7 @@ pub fn offer_point<K: Coefficients>(kind: &K, job: &mut Job, point: u64) -> Resu
                 degree: degree as u64,
             })
         }
-        (Phase::Gathering, Class::Fitting(rows)) => hold(kind, job, point, &rows),
-        (Phase::Gathering, Class::Stuck(element)) => Err(make_void(job, element)),
+        (Phase::Gathering, Class::Fitting(image)) => hold(kind, job, point, &image),
+        (Phase::Gathering, Class::Stuck(fault)) => Err(make_void(job, fault)),
     }
 }

@@ -15,19 +15,16 @@ use polynomials::rows::size;
 use rules::counts::Counts;
 use rules::refusal::{Refusal, Stage, Table};
 use steps::answer::Reduction;
+use steps::factored::Factored;
 use steps::prepare::{Part, Workings, prepare};
 
 // A table has 256 codes.
 pub fn check_length(table: Table, codes: &[u64]) -> Result<(), Refusal>
     ensures { Long table codes.now result }
 {
-    if codes.len() == 256 {
-        Ok(())
-    } else {
-        Err(Refusal::Length {
-            table,
-            length: codes.len(),
-        })
+    match codes.len() {
+        256 => Ok(()),
+        length => Err(Refusal::Length { table, length }),
     }
 }
 
@@ -35,16 +32,14 @@ pub fn check_length(table: Table, codes: &[u64]) -> Result<(), Refusal>
 fn check_elements<K: Coefficients>(kind: &K, table: Table, codes: &[u64]) -> Result<(), Refusal>
     ensures { AllElements (K.arithmetic kind.now) table codes.now result }
 {
-    for (place, code) in codes.iter().enumerate() {
-        if !kind.contains(*code) {
-            return Err(Refusal::ForeignCode {
-                table,
-                place,
-                code: *code,
-            });
-        }
+    match codes.iter().position(|code| !kind.contains(*code)) {
+        None => Ok(()),
+        Some(place) => Err(Refusal::ForeignCode {
+            table,
+            place,
+            code: codes[place],
+        }),
     }
-    Ok(())
 }
 
 // Some code is not zero; answers one more than the place of the last.
@@ -59,16 +54,17 @@ fn check_some<K: Coefficients>(kind: &K, table: Table, codes: &[u64]) -> Result<
 
 // The coefficient of the leading term has a reciprocal.
 fn check_lead<K: Coefficients>(kind: &K, codes: &[u64], count: usize) -> Result<(), Refusal>
-    requires { (0 < count) × ((Inside (K.arithmetic kind.now) codes.now) × (Sized (K.arithmetic kind.now) codes.now count)) }
+    requires some { 0 < count }
+    requires inside { Inside (K.arithmetic kind.now) codes.now }
+    requires sized { Sized (K.arithmetic kind.now) codes.now count }
     ensures { Leads (K.arithmetic kind.now) codes.now count result }
 {
-    match kind.reciprocal(codes[count - 1]) {
-        Ok(_) => Ok(()),
-        Err(_) => Err(Refusal::NoField {
-            element: codes[count - 1],
-            stage: Stage::Opening,
-        }),
-    }
+    let element = codes[count - 1];
+    kind.reciprocal(element).map_err(|_| Refusal::NoField {
+        element,
+        stage: Stage::Opening,
+    })?;
+    Ok(())
 }
 
 // The checks of an opening.
@@ -97,25 +93,20 @@ const NONE: Counts = Counts {
 };
 
 // A job that begins.
-fn begin(standing: Standing, workings: Workings, ceiling: usize) -> Job
-    requires { (wanted standing 0 ≤ workings.closing) × (workings.closing ≤ 31) }
-    ensures { Begun standing workings ceiling result }
+fn begin(standing: Standing, workings: Workings) -> Job
+    requires room { wanted standing 0 ≤ workings.closing }
+    requires closes { workings.closing ≤ 31 }
+    ensures { Begun standing workings result }
 {
     Job {
         standing,
-        ceiling,
+        ceiling: workings.ceiling,
         level: 0,
         counts: NONE,
         workings,
         points: [0; 31],
-        divisors: [0; 496],
-        lefts: [0; 496],
-        rights: [0; 496],
-        reduction: Reduction {
-            divisor: [0; 256],
-            left: [0; 256],
-            right: [0; 256],
-        },
+        images: Factored::zeros(),
+        reduction: Reduction::zeros(),
     }
 }
 
@@ -138,7 +129,7 @@ fn refuse(refusal: Refusal) -> Job
         closing: 0,
         ceiling: 0,
     };
-    begin(Standing::Void(refusal), workings, 0)
+    begin(Standing::Void(refusal), workings)
 }
 
 // Opens a job for two tables.
@@ -150,7 +141,7 @@ pub fn open_job<K: Coefficients>(kind: &K, a: &[u64], b: &[u64]) -> Job
         return refuse(refusal);
     }
     match prepare(kind, a, b) {
-        Ok(workings) => begin(Standing::Gathering, workings, workings.ceiling),
+        Ok(workings) => begin(Standing::Gathering, workings),
         Err(fault) => refuse(Refusal::NoField {
             element: named_element(fault),
             stage: Stage::Opening,

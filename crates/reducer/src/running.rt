@@ -20,44 +20,35 @@ fn cause_to_stop(job: &Job, drawn: u64, draws: u64) -> Option<Result<(), Refusal
     match job.standing {
         Standing::Void(refusal) => Some(Err(refusal)),
         Standing::Settled => Some(Ok(())),
-        Standing::Gathering => {
-            if job.counts.offered >= 1048575 {
-                Some(Err(Refusal::Full(job.counts)))
-            } else if drawn == draws {
-                Some(Err(Refusal::Spent(job.counts)))
-            } else {
-                None
-            }
-        }
+        Standing::Gathering if job.is_full() => Some(Err(Refusal::Full(job.counts))),
+        Standing::Gathering if drawn == draws => Some(Err(Refusal::Spent(job.counts))),
+        Standing::Gathering => None,
     }
 }
 
-// Draws and offers until there is a cause to stop.
+// Draws and offers until there is a cause to stop. Counted by hand: that is looked for once more after the last draw, where a range of draws would have ended.
 fn draw_points<K: Coefficients, S: Source>(
     kind: &K,
     job: &mut Job,
     source: &mut S,
     draws: u64,
 ) -> Ran
-    ensures { (a b : List ℕ) → Sound (K.Coefficients.arithmetic kind.now) a b job.old → Drawing (K.Coefficients.arithmetic kind.now) a b (state_of job.old) draws (S.Source.waiting source.old) (outcome (state_of job.new) (S.Source.waiting source.new) result.drawn result.ending) × Sound (K.Coefficients.arithmetic kind.now) a b job.new }
+    ensures drawing { (a b : List ℕ) → Sound (K.Coefficients.arithmetic kind.now) a b job.old → Drawing (K.Coefficients.arithmetic kind.now) a b (state_of job.old) draws (S.Source.waiting source.old) (outcome (state_of job.new) (S.Source.waiting source.new) result.drawn result.ending) }
+    ensures sound { (a b : List ℕ) → Sound (K.Coefficients.arithmetic kind.now) a b job.old → Sound (K.Coefficients.arithmetic kind.now) a b job.new }
 {
     let mut drawn = 0;
     'drawing: loop {
         if let Some(ending) = cause_to_stop(job, drawn, draws) {
             return Ran { drawn, ending };
         }
-        match source.draw() {
-            Some(point) => {
-                let _ = offer_point(kind, job, point);
-                drawn += 1;
-            }
-            None => {
-                return Ran {
-                    drawn,
-                    ending: Err(Refusal::Empty(job.counts)),
-                };
-            }
-        }
+        let Some(point) = source.draw() else {
+            return Ran {
+                drawn,
+                ending: Err(Refusal::Empty(job.counts)),
+            };
+        };
+        let _ = offer_point(kind, job, point);
+        drawn += 1;
     }
 }
 
@@ -68,7 +59,8 @@ pub fn run_job<K: Coefficients, S: Source>(
     source: &mut S,
     draws: u64,
 ) -> Ran
-    ensures { (a b : List ℕ) → Sound (K.Coefficients.arithmetic kind.now) a b job.old → Runs (K.Coefficients.arithmetic kind.now) a b (state_of job.old) draws (S.Source.waiting source.old) (outcome (state_of job.new) (S.Source.waiting source.new) result.drawn result.ending) × Sound (K.Coefficients.arithmetic kind.now) a b job.new }
+    ensures ran { (a b : List ℕ) → Sound (K.Coefficients.arithmetic kind.now) a b job.old → Runs (K.Coefficients.arithmetic kind.now) a b (state_of job.old) draws (S.Source.waiting source.old) (outcome (state_of job.new) (S.Source.waiting source.new) result.drawn result.ending) }
+    ensures sound { (a b : List ℕ) → Sound (K.Coefficients.arithmetic kind.now) a b job.old → Sound (K.Coefficients.arithmetic kind.now) a b job.new }
 {
     if let Standing::Settled = job.standing {
         return Ran {

@@ -1,6 +1,5 @@
 // A job in its two states: gathering points, and closed.
 ghost use Rattle.std.specs.Prelude.{◌≡◌, ℕ, List};
-ghost use Rattle.rules.specs.Job.{counts};
 ghost use Rattle.rules.specs.Run.{outcome, offering, running};
 ghost use Rattle.reducer.specs.State.{state_of};
 ghost use Rattle.reducer.specs.Sound.{Sound};
@@ -14,7 +13,6 @@ use crate::standing::Standing;
 use coefficients::kind::Coefficients;
 use points::source::Source;
 use rules::answer::{Answer, Ran};
-use rules::counts::Counts;
 use rules::refusal::{Refusal, Table};
 
 // A job that takes points.
@@ -67,23 +65,10 @@ impl<K: Coefficients + Copy> Gathering<K> {
         Closed { kind, job }
     }
 
-    pub fn standing(&self) -> Standing
-        ensures { result ≡ self.now.job.standing }
+    pub fn job(&self) -> &Job
+        ensures { result.now ≡ self.now.job }
     {
-        self.job.standing
-    }
-
-    pub fn counts(&self) -> Counts
-        ensures { result ≡ counts (state_of self.now.job) }
-    {
-        self.job.counts
-    }
-
-    // The held points, in order of holding.
-    pub fn points(&self) -> &[u64]
-        ensures { result.now ≡ (state_of self.now.job).held }
-    {
-        &self.job.points[..self.job.counts.held as usize]
+        &self.job
     }
 }
 
@@ -106,7 +91,7 @@ impl<K: Coefficients> Closed<K> {
     {
         match self.job.standing {
             Standing::Void(refusal) => return Err(refusal),
-            Standing::Gathering => return Err(Refusal::Short(self.counts())),
+            Standing::Gathering => return Err(Refusal::Short(self.job.counts())),
             Standing::Settled => {}
         }
         check_length(Table::Divisor, divisor)?;
@@ -118,25 +103,9 @@ impl<K: Coefficients> Closed<K> {
         Ok(())
     }
 
-    pub fn standing(&self) -> Standing
-        ensures { result ≡ self.now.job.standing }
+    pub fn job(&self) -> &Job
+        ensures { result.now ≡ self.now.job }
     {
-        self.job.standing
-    }
-
-    pub fn counts(&self) -> Counts
-        ensures { result ≡ counts (state_of self.now.job) }
-    {
-        Counts {
-            held: self.points().len() as u64,
-            ..self.job.counts
-        }
-    }
-
-    // The held points, in order of holding.
-    pub fn points(&self) -> &[u64]
-        ensures { result.now ≡ (state_of self.now.job).held }
-    {
-        &self.job.points[..self.job.counts.held as usize]
+        &self.job
     }
 }

@@ -65,26 +65,26 @@ module _ {K : Arithmetic} (laws : Laws K) (only : IsField K) {A B : K[y][x] (sca
 
 -- the images that are left, scaled by the value of γ
 pub images_are : {K : Arithmetic} → Laws K → (w : Workings) (α v : ℕ) (ia ib d : List ℕ) (s : Shares) (k : ℕ) → length w.left.rows ≡ 256 → length w.right.rows ≡ 256 →
-    Imaged K w.left.rows α ia → Imaged K w.right.rows α ib → Sharing K ia ib (Ok s) → length d ≡ length s.common → ((i : ℕ) → i < length s.common → get_or d i 0 ≡ K.product v (get_or s.common i 0)) → k ≡ pred s.size →
-    (a b : List ℕ) → WorkingsOf K a b w → K.element α ≡ true → K.element v ≡ true → ((laws : Laws K) → Value laws w.lead α v) → ¬ (v ≡ K.zero) → ImagesOf K a b α k d s.left s.right
+    Imaged K w.left.rows α ia → Imaged K w.right.rows α ib → Sharing K ia ib (Ok s) → length d ≡ length s.rows.divisor → ((i : ℕ) → i < length s.rows.divisor → get_or d i 0 ≡ K.product v (get_or s.rows.divisor i 0)) → k ≡ pred s.size →
+    (a b : List ℕ) → WorkingsOf K a b w → K.element α ≡ true → K.element v ≡ true → ((laws : Laws K) → Value laws w.lead α v) → ¬ (v ≡ K.zero) → ImagesOf K a b α k d s.rows.left s.rows.right
 images_are {K = K} laws₀ w α v ia ib d s k long_A long_B of_A of_B sharing len times degree a b wk αi vi value nonzero =
     let fa = of_A long_A wk.A_in αi in
     let fb = of_B long_B wk.B_in αi in
     let c = sharing fa.0 fb.0 in
-    let inside = scaled_in laws₀ v s.common d len times in
-    record { divisor_in = inside; left_in = c.left_in; right_in = c.right_in; are = λ laws only p. are laws only p (fa.1 laws) (fb.1 laws) c.common_in inside c.sized (c.shared laws) }
+    let inside = scaled_in laws₀ v s.rows.divisor d len times in
+    record { divisor_in = inside; left_in = c.elements.left_in; right_in = c.elements.right_in; are = λ laws only p. are laws only p (fa.1 laws) (fb.1 laws) c.elements.divisor_in inside c.sized (c.shared laws) }
   where
-    are : (laws : Laws K) (only : IsField K) (p : Prepared (scalars laws only) (table laws a) (table laws b)) → Rows.Image laws w.left.rows α ia → Rows.Image laws w.right.rows α ib → Inside K s.common → Inside K d → Sized K s.common s.size → Shared laws ia ib s → ImageAt laws only p α k d s.left s.right
+    are : (laws : Laws K) (only : IsField K) (p : Prepared (scalars laws only) (table laws a) (table laws b)) → Rows.Image laws w.left.rows α ia → Rows.Image laws w.right.rows α ib → Inside K s.rows.divisor → Inside K d → Sized K s.rows.divisor s.size → Shared laws ia ib s.rows → ImageAt laws only p α k d s.rows.left s.rows.right
     are laws only p image_A image-B c_in d-in sized t =
         let m = wk.same laws only p in
         let code : v ≡ (lead_at laws only p α).0 = sym (value laws) ∙ ap (λ (q : Poly (elements laws)). (at (elements laws) (element_discrete K) (read laws α) q).0) m.γ in
         let lead : read laws v ≡ lead_at laws only p α = element_same K (code_read laws v vi ∙ code) in
         record {
           stands = λ z. nonzero (code ∙ ap (λ (x : Element K). x.0) z ∙ code_zero laws);
-          g = polynomial laws s.common;
-          image = gcd_image laws only p w m α ia ib image_A image-B s.common t.gcd t.nonzero;
-          degree = ap pred (size_is laws s.common s.size c_in sized) ∙ sym degree;
-          divisor = scaled laws v vi s.common d c_in d-in len times ∙ ap (λ (x : Element K). (polynomials laws).mul (number (elements laws) (element_discrete K) x) (polynomial laws s.common)) lead;
+          g = polynomial laws s.rows.divisor;
+          image = gcd_image laws only p w m α ia ib image_A image-B s.rows.divisor t.gcd t.nonzero;
+          degree = ap pred (size_is laws s.rows.divisor s.size c_in sized) ∙ sym degree;
+          divisor = scaled laws v vi s.rows.divisor d c_in d-in len times ∙ ap (λ (x : Element K). (polynomials laws).mul (number (elements laws) (element_discrete K) x) (polynomial laws s.rows.divisor)) lead;
           left = left_image laws only p w m α ia ib image_A image-B ∙ t.left;
           right = right_image laws only p w m α ia ib image_A image-B ∙ t.right;
         }

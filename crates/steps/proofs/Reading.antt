@@ -42,12 +42,11 @@ use Rattle.tables.proofs.Evenly.{put_same, put_here}
 use Rattle.values.specs.Meaning.{scalars}
 use Rattle.steps.specs.declared.prepare.Workings.{Workings}
 use Rattle.steps.specs.declared.share.Shares.{Shares}
-use Rattle.steps.specs.declared.trial.JoinedRows.{JoinedRows}
-use Rattle.steps.specs.declared.answer.Reduction.{Reduction}
+use Rattle.steps.specs.declared.factored.Factored.{Factored}
 use Rattle.steps.specs.Faults.{Faulty}
 use Rattle.steps.specs.Prepare.{SameAs, WorkingsOf}
 use Rattle.steps.specs.Share.{Sharing}
-use Rattle.steps.specs.Trial.{ElementsIn}
+use Rattle.steps.specs.Factored.{ElementsIn}
 use Rattle.steps.specs.Answer.{Narrowed, Enlarging, ReductionOf, Ends, Finishing}
 use Rattle.steps.proofs.Fields.{content_here, width_here}
 
@@ -55,9 +54,6 @@ use Rattle.steps.proofs.Fields.{content_here, width_here}
 pub record Copied (t r : List ℕ) (i : ℕ) : Type 0 where
   pub long : length r ≡ 256
   pub rows : (k : ℕ) → k < i → cut_row 16 r k ≡ take 16 (cut_row 32 t k)
-
-pub copied_none : (t r : List ℕ) → length r ≡ 256 → Copied t r 0
-copied_none t r long = record { long = long; rows = λ k lt. absurd (omega arith) }
 
 pub copied_more : (t r y : List ℕ) (i n : ℕ) → length t ≡ 512 → i < 16 → n ≡ 16 → y ≡ take (32 * i + 16 - 32 * i) (drop (32 * i) t) → Copied t r i → Copied t (put_mid (16 * i) n r y) (i + 1)
 copied_more t r y i n lt within width is h = record { long = whole; rows = λ k lk. go k (cases_lt k i) lk }
@@ -83,9 +79,6 @@ copied_more t r y i n lt within width is h = record { long = whole; rows = λ k 
     go k (inr l) lk =
         let e : i ≡ k = omega arith in
         subst (λ (k : ℕ). cut_row 16 (put_mid (16 * i) n r y) k ≡ take 16 (cut_row 32 t k)) e (put_here 16 i (16 * i) n r y refl (let e = h.long in omega arith) wide ∙ half)
-
-pub copied_all : (t r : List ℕ) (i : ℕ) → 16 ≤ i → Copied t r i → Narrowed t r
-copied_all t r i all h = record { long = h.long; rows = λ k lt. h.rows k (omega arith) }
 
 -- narrower rows of elements are rows of elements
 pub narrowed_in : (K : Arithmetic) (t r : List ℕ) → Narrowed t r → Inside K t → Inside K r
@@ -181,37 +174,37 @@ module _ {K : Arithmetic} (a b : List ℕ) (w : Workings) (wk : WorkingsOf K a b
       let p = theirs laws only in
       monic_nonzero (scalars laws only) p.content_A p.of_A.monic (sym (wk.same laws only p).content_A ∙ z))
 
-  -- d, l and r are the greatest common divisor of the parts and its cofactors
-  module _ (s : Shares) (told : Sharing K w.left.content w.right.content (Ok s)) (d l r : List ℕ) (parts : (laws : Laws K) (only : IsField K) (p : Prepared (scalars laws only) (table laws a) (table laws b)) → Reduced (scalars laws only) p.A' p.B' (table laws d) (table laws l) (table laws r)) where
+  -- f is the greatest common divisor of the parts and its cofactors
+  module _ (s : Shares) (told : Sharing K w.left.content w.right.content (Ok s)) (f : Factored 256) (inside : ElementsIn K f) (parts : (laws : Laws K) (only : IsField K) (p : Prepared (scalars laws only) (table laws a) (table laws b)) → Reduced (scalars laws only) p.A' p.B' (table laws f.divisor) (table laws f.left) (table laws f.right)) where
     abbrev times : (laws : Laws K) → List ℕ → List ℕ → Poly₂ (elements laws) (element_discrete K)
     times laws c t = (poly₂ (elements laws) (element_discrete K)).mul (lifted laws c) (table laws t)
 
-    whole : (laws : Laws K) (only : IsField K) → Reduced (scalars laws only) (table laws a) (table laws b) (times laws s.common d) (times laws s.left l) (times laws s.right r)
+    whole : (laws : Laws K) (only : IsField K) → Reduced (scalars laws only) (table laws a) (table laws b) (times laws s.rows.divisor f.divisor) (times laws s.rows.left f.left) (times laws s.rows.right f.right)
     whole laws only =
         let p = theirs laws only in
         let same = wk.same laws only p in
         let h = (told wk.content_A_in wk.content_B_in).shared laws in
-        let g : Greatest (polynomials laws) p.content_A p.content_B (polynomial laws s.common) = subst (λ x. Greatest (polynomials laws) x p.content_B (polynomial laws s.common)) same.content_A (subst (λ x. Greatest (polynomials laws) (polynomial laws w.left.content) x (polynomial laws s.common)) same.content_B h.gcd.greatest) in
-        together laws only p (polynomial laws s.common) (polynomial laws s.left) (polynomial laws s.right) (table laws d) (table laws l) (table laws r)
-        (h.gcd.normal (λ e. h.nonzero (size_zero (elements laws) (element_discrete K) (polynomial laws s.common) e))) g (sym same.content_A ∙ h.left) (sym same.content_B ∙ h.right) (parts laws only p)
+        let g : Greatest (polynomials laws) p.content_A p.content_B (polynomial laws s.rows.divisor) = subst (λ x. Greatest (polynomials laws) x p.content_B (polynomial laws s.rows.divisor)) same.content_A (subst (λ x. Greatest (polynomials laws) (polynomial laws w.left.content) x (polynomial laws s.rows.divisor)) same.content_B h.gcd.greatest) in
+        together laws only p (polynomial laws s.rows.divisor) (polynomial laws s.rows.left) (polynomial laws s.rows.right) (table laws f.divisor) (table laws f.left) (table laws f.right)
+        (h.gcd.normal (λ e. h.nonzero (size_zero (elements laws) (element_discrete K) (polynomial laws s.rows.divisor) e))) g (sym same.content_A ∙ h.left) (sym same.content_B ∙ h.right) (parts laws only p)
 
     -- there is room for the products
-    pub divisor_room : (e : DivisionFault) → Inside K d → Enlarging K d s.common (Err e) → Faulty K e
-    divisor_room e h refused = refused h (told wk.content_A_in wk.content_B_in).common_in (λ laws only. factor_within (scalars laws only) (table laws a) _ (times laws s.left l) (whole laws only).left (wk.A_nonzero laws) 16 (rows_within laws a))
+    pub divisor_room : (e : DivisionFault) → Enlarging K f.divisor s.rows.divisor (Err e) → Faulty K e
+    divisor_room e refused = refused inside.divisor_in (told wk.content_A_in wk.content_B_in).elements.divisor_in (λ laws only. factor_within (scalars laws only) (table laws a) _ (times laws s.rows.left f.left) (whole laws only).left (wk.A_nonzero laws) 16 (rows_within laws a))
 
-    pub left_room : (e : DivisionFault) → Inside K l → Enlarging K l s.left (Err e) → Faulty K e
-    left_room e h refused = refused h (told wk.content_A_in wk.content_B_in).left_in (λ laws only. factor_within (scalars laws only) (table laws a) _ (times laws s.common d) ((whole laws only).left ∙ mul_comm (poly₂ (elements laws) (element_discrete K)) _ _) (wk.A_nonzero laws) 16 (rows_within laws a))
+    pub left_room : (e : DivisionFault) → Enlarging K f.left s.rows.left (Err e) → Faulty K e
+    left_room e refused = refused inside.left_in (told wk.content_A_in wk.content_B_in).elements.left_in (λ laws only. factor_within (scalars laws only) (table laws a) _ (times laws s.rows.divisor f.divisor) ((whole laws only).left ∙ mul_comm (poly₂ (elements laws) (element_discrete K)) _ _) (wk.A_nonzero laws) 16 (rows_within laws a))
 
-    pub right_room : (e : DivisionFault) → Inside K r → Enlarging K r s.right (Err e) → Faulty K e
-    right_room e h refused = refused h (told wk.content_A_in wk.content_B_in).right_in (λ laws only. factor_within (scalars laws only) (table laws b) _ (times laws s.common d) ((whole laws only).right ∙ mul_comm (poly₂ (elements laws) (element_discrete K)) _ _) (wk.B_nonzero laws) 16 (rows_within laws b))
+    pub right_room : (e : DivisionFault) → Enlarging K f.right s.rows.right (Err e) → Faulty K e
+    right_room e refused = refused inside.right_in (told wk.content_A_in wk.content_B_in).elements.right_in (λ laws only. factor_within (scalars laws only) (table laws b) _ (times laws s.rows.divisor f.divisor) ((whole laws only).right ∙ mul_comm (poly₂ (elements laws) (element_discrete K)) _ _) (wk.B_nonzero laws) 16 (rows_within laws b))
 
-    pub finished : (x y z : List ℕ) → Inside K d → Inside K l → Inside K r → Enlarging K d s.common (Ok x) → Enlarging K l s.left (Ok y) → Enlarging K r s.right (Ok z) → ReductionOf K a b (record { divisor = x; left = y; right = z })
-    finished x y z hd hl hr ed el er =
+    pub finished : (x y z : List ℕ) → Enlarging K f.divisor s.rows.divisor (Ok x) → Enlarging K f.left s.rows.left (Ok y) → Enlarging K f.right s.rows.right (Ok z) → ReductionOf K a b (record { divisor = x; left = y; right = z })
+    finished x y z ed el er =
         let h = told wk.content_A_in wk.content_B_in in
-        let tx = ed.1 hd h.common_in in
-        let ty = el.1 hl h.left_in in
-        let tz = er.1 hr h.right_in in
-        record { divisor_in = tx.0; left_in = ty.0; right_in = tz.0; reduced = λ laws only. rw (tx.1 laws, ty.1 laws, tz.1 laws) (whole laws only) }
+        let tx = ed.1 inside.divisor_in h.elements.divisor_in in
+        let ty = el.1 inside.left_in h.elements.left_in in
+        let tz = er.1 inside.right_in h.elements.right_in in
+        record { elements = record { divisor_in = tx.0; left_in = ty.0; right_in = tz.0 }; reduced = λ laws only. rw (tx.1 laws, ty.1 laws, tz.1 laws) (whole laws only) }
 
 -- The table whose only code besides zeros is a one.
 module _ (K : Arithmetic) (z o : ℕ) (z_is : z ≡ K.zero) (o_is : o ≡ K.one) where
@@ -293,7 +286,7 @@ rows_refused laws t g q Uneven ht hg nonzero divides told = λ only.
     no_way (divides only i)
 
 -- What is joined at lucky points.
-module _ {K : Arithmetic} (a b : List ℕ) (w : Workings) (wk : WorkingsOf K a b w) (j : JoinedRows) (inside : ElementsIn K j) (answer : (laws : Laws K) (only : IsField K) (p : Prepared (scalars laws only) (table laws a) (table laws b)) → Answer (scalars laws only) p (polynomial_xy laws 32 j.divisor) (polynomial_xy laws 32 j.left) (polynomial_xy laws 32 j.right)) where
+module _ {K : Arithmetic} (a b : List ℕ) (w : Workings) (wk : WorkingsOf K a b w) (j : Factored 512) (inside : ElementsIn K j) (answer : (laws : Laws K) (only : IsField K) (p : Prepared (scalars laws only) (table laws a) (table laws b)) → Answer (scalars laws only) p (polynomial_xy laws 32 j.divisor) (polynomial_xy laws 32 j.left) (polynomial_xy laws 32 j.right)) where
   pub joined_content_refused : Laws K → (held d p : List ℕ) (e : DivisionFault) → Tables.Parting K 32 j.divisor held d p (Err e) → Faulty K e
   joined_content_refused laws held d p e = content_refused laws j.divisor held d p e inside.divisor_in (λ only. whole_nonzero (scalars laws only) (answer laws only (theirs a b w wk laws only)).of_G)
 
@@ -346,5 +339,5 @@ module _ {K : Arithmetic} (a b : List ℕ) (w : Workings) (wk : WorkingsOf K a b
           narrow : (t u : List ℕ) {X : K[y][x] (scalars laws only)} → length t ≡ 512 → Narrowed t u → polynomial_xy laws 32 t ≡ X → Within (scalars laws only) 16 X → table laws u ≡ X
           narrow t u long n e small = narrowed_is laws t u long n (subst (Within (scalars laws only) 16) (sym e) small) ∙ e
 
-      pub closed : length g ≡ 512 → length l ≡ 512 → length r ≡ 512 → Inside K a → Inside K b → length a ≡ 256 → length b ≡ 256 → (o : Result Reduction DivisionFault) → Finishing K w x y z o → Ends K a b o
-      closed lg ll lr ha hb la lb o finish = finish a b ha hb la lb wk (narrowed_in K g x nx g_in) (narrowed_in K l y ny (left inside.left_in h_in).0) (narrowed_in K r z nz (right inside.right_in h_in).0) (joined_parts lg ll lr)
+      pub closed : length g ≡ 512 → length l ≡ 512 → length r ≡ 512 → Inside K a → Inside K b → length a ≡ 256 → length b ≡ 256 → (o : Result (Factored 256) DivisionFault) → Finishing K w (record { divisor = x; left = y; right = z }) o → Ends K a b o
+      closed lg ll lr ha hb la lb o finish = finish a b ha hb la lb wk (record { divisor_in = narrowed_in K g x nx g_in; left_in = narrowed_in K l y ny (left inside.left_in h_in).0; right_in = narrowed_in K r z nz (right inside.right_in h_in).0 }) (joined_parts lg ll lr)

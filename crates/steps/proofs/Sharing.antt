@@ -2,24 +2,17 @@
 use Rattle.std.proofs.Common.{◌≡◌, ℕ, zero, suc, List, Ok, Err, ap, ◌∙◌, inl, arith}
 use Rattle.coefficients.specs.Arithmetic.{Arithmetic, Laws, IsField}
 use Rattle.coefficients.specs.declared.kind.ReciprocalFault.{ReciprocalFault}
-use Rattle.coefficients.specs.declared.kind.ReciprocalFault.TheVariants.{NoReciprocal}
 use Rattle.algebra.specs.Ring.{zero_mul}
 use Rattle.polynomials.specs.Elements.{polynomial, polynomials}
 use Rattle.polynomials.specs.Relations.{MonicGcd}
 use Rattle.polynomials.specs.Rows.{Inside, Sized}
-use Rattle.polynomials.specs.Steps.{Common, Stuck, Undivided}
+use Rattle.polynomials.specs.Steps.{Common, Undivided}
 use Rattle.polynomials.proofs.Meaning.{cleared}
 use Rattle.polynomials.proofs.Inverse.{stuck}
 use Rattle.tables.specs.declared.faults.DivisionFault.{DivisionFault}
 use Rattle.tables.specs.declared.faults.DivisionFault.TheVariants.{Reciprocal, Uneven}
 use Rattle.tables.specs.Content.{Even}
-use Rattle.steps.specs.declared.share.Shares.{Shares}
-use Rattle.steps.specs.Faults.{Faulty}
-use Rattle.steps.specs.Share.{SharesOf, Sharing}
-
--- an element without a reciprocal, where a field would have one
-pub stuck_faulty : {K : Arithmetic} (e : ReciprocalFault) → (c : ℕ) × (e ≡ NoReciprocal c) × Stuck K c → Faulty K (Reciprocal e)
-stuck_faulty e (c, is, s) = (s.no_field, (c, is, s.inside, s.none))
+use Rattle.steps.specs.Share.{Sharing}
 
 -- zero divides only zero
 divided_zero : {K : Arithmetic} (laws : Laws K) (a b d : List ℕ) → MonicGcd laws a b d → polynomial laws d ≡ (polynomials laws).zero → polynomial laws a ≡ (polynomials laws).zero
@@ -44,20 +37,3 @@ left_refused laws a b d rest held q m n Uneven shared sized uneven = λ ha hb no
 pub right_refused : {K : Arithmetic} (laws : Laws K) (a b d rest held q : List ℕ) (m n : ℕ) (e : DivisionFault) → Common K a b d rest (Ok m) → Sized K d n → Even K b d held q (Err e) → Sharing K a b (Err e)
 right_refused laws a b d rest held q m n (Reciprocal e) shared sized told = lead_refused laws a b d rest m n e shared sized told.0
 right_refused laws a b d rest held q m n Uneven shared sized uneven = λ ha hb nonzero only. let c = shared ha hb in ((uneven hb c.0).1 laws).1 (inl only) (c.3 laws).greatest.right
-
-pub sharing : {K : Arithmetic} (a b d rest held_l held_r l r : List ℕ) (m n : ℕ) (u v : Unit {0}) → Common K a b d rest (Ok m) → Sized K d n → Even K a d held_l l (Ok u) → Even K b d held_r r (Ok v) → (s : Shares) → s.size ≡ n → s.common ≡ d → s.left ≡ l → s.right ≡ r → Sharing K a b (Ok s)
-sharing {K = K} a b d rest held_l held_r l r m n u v shared sized even_a even_b s en ed el er ha hb =
-    let c = shared ha hb in
-    let x = even_a ha c.0 in
-    let y = even_b hb c.0 in
-    rw_in s en ed el er c.0 x.0 y.0 (λ laws. c.3 laws) (λ laws. x.1 laws) (λ laws. y.1 laws)
-  where
-    rw_in : (s : Shares) → s.size ≡ n → s.common ≡ d → s.left ≡ l → s.right ≡ r → Inside K d → Inside K l → Inside K r → ((laws : Laws K) → MonicGcd laws a b d) → ((laws : Laws K) → ¬ (polynomial laws d ≡ (polynomials laws).zero) × (polynomial laws a ≡ (polynomials laws).mul (polynomial laws d) (polynomial laws l))) →
-        ((laws : Laws K) → ¬ (polynomial laws d ≡ (polynomials laws).zero) × (polynomial laws b ≡ (polynomials laws).mul (polynomial laws d) (polynomial laws r))) → SharesOf K a b s
-    rw_in s en ed el er hd hl hr g x y = record {
-      common_in = rw ed hd;
-      left_in = rw el hl;
-      right_in = rw er hr;
-      sized = rw (ed, en) sized;
-      shared = λ laws. record { gcd = rw ed (g laws); nonzero = rw ed (x laws).0; left = rw (ed, el) (x laws).1; right = rw (ed, er) (y laws).1 };
-    }

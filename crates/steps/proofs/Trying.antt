@@ -19,7 +19,7 @@ use Rattle.tables.proofs.Sizes.{of_rows, of_past}
 use Rattle.tables.proofs.CutRows.{cut_row_length, cut_row_code}
 use Rattle.values.specs.Meaning.{scalars}
 use Rattle.steps.specs.declared.prepare.Workings.{Workings}
-use Rattle.steps.specs.declared.trial.JoinedRows.{JoinedRows}
+use Rattle.steps.specs.declared.factored.Factored.{Factored}
 use Rattle.steps.specs.Faults.{Faulty}
 use Rattle.steps.specs.Prepare.{SameAs}
 use Rattle.steps.specs.Trial.{JoinedOf, Joins, Trying}
@@ -59,7 +59,7 @@ within {K = K} laws only ps vs t long joined i = go (cases_lt i 16)
     go (inl lt) = rw (of_rows laws 32 t i) (joined.small i lt)
     go (inr le) = let z = ap (size (elements laws)) (of_past laws 32 t i long le) ∙ size_of_zero (elements laws) (element_discrete K) in omega arith
 
-module _ {K : Arithmetic} (ps ds ls rs : List ℕ) (j : JoinedRows) (long_ds : length ds ≡ 16 * length ps) (long_ls : length ls ≡ 16 * length ps) (long_rs : length rs ≡ 16 * length ps) (long_D : length j.divisor ≡ 512) (long_L : length j.left ≡ 512) (long_R : length j.right ≡ 512)
+module _ {K : Arithmetic} (ps ds ls rs : List ℕ) (j : Factored 512) (long_ds : length ds ≡ 16 * length ps) (long_ls : length ls ≡ 16 * length ps) (long_rs : length rs ≡ 16 * length ps) (long_D : length j.divisor ≡ 512) (long_L : length j.left ≡ 512) (long_R : length j.right ≡ 512)
     (of_D : Tables.Joining K ps ds j.divisor (Ok tt)) (of_L : Tables.Joining K ps ls j.left (Ok tt)) (of_R : Tables.Joining K ps rs j.right (Ok tt)) where
   pub joins : Joins K ps ds ls rs (Ok j)
   joins a b k w wk g enough =
@@ -99,7 +99,7 @@ join_refused K ps vs t e told hp d hv =
     (λ only. never only d, (c, is, ci, none))
 
 -- the degrees add up, by the sizes in y that were found
-pub tried : {K : Arithmetic} (w : Workings) (j : JoinedRows) (d l r : ℕ) (passed : Bool) → SizeY K 32 j.divisor d → SizeY K 32 j.left l → SizeY K 32 j.right r → (passed ≡ true) ↔ ((w.height_left ≡ pred d + pred l) × (w.height_right ≡ pred d + pred r)) → Trying K w j passed
+pub tried : {K : Arithmetic} (w : Workings) (j : Factored 512) (d l r : ℕ) (passed : Bool) → SizeY K 32 j.divisor d → SizeY K 32 j.left l → SizeY K 32 j.right r → (passed ≡ true) ↔ ((w.height_left ≡ pred d + pred l) × (w.height_right ≡ pred d + pred r)) → Trying K w j passed
 tried {K = K} w j d l r passed in-D in-L in-R test a b wk e laws only p =
     let F = scalars laws only in
     let same = wk.same laws only p in

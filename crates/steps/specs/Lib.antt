@@ -1,4 +1,5 @@
 pub mod Faults
+pub mod Factored
 pub mod Share
 pub mod Prepare
 pub mod Look

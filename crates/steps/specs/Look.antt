@@ -1,5 +1,5 @@
 -- What is found at a point, by the images of the theory.
-use Rattle.std.specs.Prelude.{◌≡◌, ℕ, true, List, Ok, Err, Result}
+use Rattle.std.specs.Prelude.{◌≡◌, ℕ, true, List, Some, None, Ok, Err, Option, Result}
 use Rattle.coefficients.specs.Arithmetic.{Arithmetic, Laws, IsField}
 use Rattle.algebra.specs.Polynomial.{Poly, at}
 use Rattle.algebra.specs.Change.{number}
@@ -13,7 +13,6 @@ use Rattle.tables.specs.declared.faults.DivisionFault.{DivisionFault}
 use Rattle.values.specs.Meaning.{scalars}
 use Rattle.steps.specs.declared.prepare.Workings.{Workings}
 use Rattle.steps.specs.declared.look.ImageRows.{ImageRows}
-use Rattle.steps.specs.declared.look.Finding.{Finding}
 use Rattle.steps.specs.Faults.{Faulty}
 use Rattle.steps.specs.Prepare.{WorkingsOf}
 
@@ -44,11 +43,11 @@ pub record ImagesOf (K : Arithmetic) (a b : List ℕ) (α k : ℕ) (d l r : List
 
 -- `images`: γ has the value v at α, which is not zero
 abbrev pub Imaging : Arithmetic → Workings → (α v : ℕ) → Result ImageRows DivisionFault → Type 0
-Imaging K w α v (Ok i) = (a b : List ℕ) → WorkingsOf K a b w → K.element α ≡ true → K.element v ≡ true → ((laws : Laws K) → Value laws w.lead α v) → ¬ (v ≡ K.zero) → ImagesOf K a b α i.degree i.divisor i.left i.right
+Imaging K w α v (Ok i) = (a b : List ℕ) → WorkingsOf K a b w → K.element α ≡ true → K.element v ≡ true → ((laws : Laws K) → Value laws w.lead α v) → ¬ (v ≡ K.zero) → ImagesOf K a b α i.degree i.rows.divisor i.rows.left i.rows.right
 Imaging K w α v (Err e) = (a b : List ℕ) → WorkingsOf K a b w → K.element α ≡ true → Faulty K e
 
--- `look`: what is found at an element
-abbrev pub Looking : Arithmetic → Workings → (α : ℕ) → Finding → Type 0
-Looking K w α Finding.Vanishing = (a b : List ℕ) → WorkingsOf K a b w → K.element α ≡ true → (laws : Laws K) (only : IsField K) (p : Prepared (scalars laws only) (table laws a) (table laws b)) → lead_at laws only p α ≡ (elements laws).zero
-Looking K w α (Finding.Image i) = (a b : List ℕ) → WorkingsOf K a b w → K.element α ≡ true → ImagesOf K a b α i.degree i.divisor i.left i.right
-Looking K w α (Finding.Blocked e) = (a b : List ℕ) → WorkingsOf K a b w → K.element α ≡ true → Faulty K e
+-- `look`: what is found at an element, and nothing where γ is zero
+abbrev pub Looking : Arithmetic → Workings → (α : ℕ) → Result (Option ImageRows) DivisionFault → Type 0
+Looking K w α (Ok (Some i)) = (a b : List ℕ) → WorkingsOf K a b w → K.element α ≡ true → ImagesOf K a b α i.degree i.rows.divisor i.rows.left i.rows.right
+Looking K w α (Ok None) = (a b : List ℕ) → WorkingsOf K a b w → K.element α ≡ true → (laws : Laws K) (only : IsField K) (p : Prepared (scalars laws only) (table laws a) (table laws b)) → lead_at laws only p α ≡ (elements laws).zero
+Looking K w α (Err e) = (a b : List ℕ) → WorkingsOf K a b w → K.element α ≡ true → Faulty K e

@@ -5,7 +5,9 @@ use Rattle.polynomials.specs.Elements.{polynomial, polynomials}
 use Rattle.polynomials.specs.Relations.{MonicGcd}
 use Rattle.polynomials.specs.Rows.{Inside, Sized}
 use Rattle.tables.specs.declared.faults.DivisionFault.{DivisionFault}
+use Rattle.steps.specs.declared.factored.Factored.{Factored}
 use Rattle.steps.specs.declared.share.Shares.{Shares}
+use Rattle.steps.specs.Factored.{ElementsIn}
 use Rattle.steps.specs.Faults.{Faulty}
 
 module _ {K : Arithmetic} (laws : Laws K) where
@@ -13,18 +15,16 @@ module _ {K : Arithmetic} (laws : Laws K) where
 
   infixl 70 ◌⊙◌
   -- the monic greatest common divisor, which is not zero, and the cofactors
-  pub record Shared (a b : List ℕ) (s : Shares) : Type 0 where
-    pub gcd : MonicGcd laws a b s.common
-    pub nonzero : ¬ (polynomial laws s.common ≡ 𝟘)
-    pub left : polynomial laws a ≡ polynomial laws s.common ⊙ polynomial laws s.left
-    pub right : polynomial laws b ≡ polynomial laws s.common ⊙ polynomial laws s.right
+  pub record Shared (a b : List ℕ) (f : Factored 16) : Type 0 where
+    pub gcd : MonicGcd laws a b f.divisor
+    pub nonzero : ¬ (polynomial laws f.divisor ≡ 𝟘)
+    pub left : polynomial laws a ≡ polynomial laws f.divisor ⊙ polynomial laws f.left
+    pub right : polynomial laws b ≡ polynomial laws f.divisor ⊙ polynomial laws f.right
 
 pub record SharesOf (K : Arithmetic) (a b : List ℕ) (s : Shares) : Type 0 where
-  pub common_in : Inside K s.common
-  pub left_in : Inside K s.left
-  pub right_in : Inside K s.right
-  pub sized : Sized K s.common s.size
-  pub shared : (laws : Laws K) → Shared laws a b s
+  pub elements : ElementsIn K s.rows
+  pub sized : Sized K s.rows.divisor s.size
+  pub shared : (laws : Laws K) → Shared laws a b s.rows
 
 -- `share`: over a field it is refused only where the first row is zero
 abbrev pub Sharing : Arithmetic → (a b : List ℕ) → Result Shares DivisionFault → Type 0

@@ -1,5 +1,5 @@
 -- What comes of as many points as the closing number, by the theory.
-use Rattle.std.specs.Prelude.{◌≡◌, ℕ, List, map, length}
+use Rattle.std.specs.Prelude.{◌≡◌, ℕ, List, map, length, Some, None, Ok, Err, Option, Result}
 use Rattle.coefficients.specs.Arithmetic.{Arithmetic, Laws, IsField}
 use Rattle.bivariate.specs.Degrees.{K[y][x]}
 use Rattle.brown.specs.Prepared.{Prepared}
@@ -8,8 +8,8 @@ use Rattle.polynomials.specs.Elements.{read, table}
 use Rattle.polynomials.specs.Rows.{Inside}
 use Rattle.values.specs.Meaning.{scalars}
 use Rattle.steps.specs.declared.prepare.Workings.{Workings}
-use Rattle.steps.specs.declared.verdict.Verdict.{Verdict}
-use Rattle.steps.specs.declared.verdict.Verdict.TheVariants.{Passed, Failed, Blocked}
+use Rattle.tables.specs.declared.faults.DivisionFault.{DivisionFault}
+use Rattle.steps.specs.declared.factored.Factored.{Factored}
 use Rattle.steps.specs.Faults.{Faulty}
 use Rattle.steps.specs.Prepare.{WorkingsOf}
 use Rattle.steps.specs.Trial.{Gathered}
@@ -34,10 +34,10 @@ pub record Enough (K : Arithmetic) (a b : List ℕ) (w : Workings) (k : ℕ) (po
   pub gathered : Gathered K a b k points ds ls rs
   pub number : length points ≡ w.closing
 
--- `decide`: over a field the test is passed or failed; where it is passed the answer is read off
-abbrev pub Deciding : Arithmetic → Workings → (points ds ls rs : List ℕ) → Verdict → Type 0
-Deciding K w points ds ls rs (Passed r) = (a b : List ℕ) (k : ℕ) → Enough K a b w k points ds ls rs →
+-- `decide`: over a field the test is passed, and the answer is read off, or it is failed
+abbrev pub Deciding : Arithmetic → Workings → (points ds ls rs : List ℕ) → Result (Option (Factored 256)) DivisionFault → Type 0
+Deciding K w points ds ls rs (Ok (Some r)) = (a b : List ℕ) (k : ℕ) → Enough K a b w k points ds ls rs →
     ReductionOf K a b r × ((laws : Laws K) (only : IsField K) (p : Prepared (scalars laws only) (table laws a) (table laws b)) → Tested laws only p k points (Passes (scalars laws only) p))
-Deciding K w points ds ls rs Failed = (a b : List ℕ) (k : ℕ) → Enough K a b w k points ds ls rs →
+Deciding K w points ds ls rs (Ok None) = (a b : List ℕ) (k : ℕ) → Enough K a b w k points ds ls rs →
     (laws : Laws K) (only : IsField K) (p : Prepared (scalars laws only) (table laws a) (table laws b)) → Tested laws only p k points (λ G* A* B*. ¬ Passes (scalars laws only) p G* A* B*)
-Deciding K w points ds ls rs (Blocked e) = (a b : List ℕ) (k : ℕ) → Enough K a b w k points ds ls rs → Faulty K e
+Deciding K w points ds ls rs (Err e) = (a b : List ℕ) (k : ℕ) → Enough K a b w k points ds ls rs → Faulty K e

@@ -1,7 +1,7 @@
 // Reading off the greatest common divisor of two prepared tables, and both cofactors.
-ghost use Rattle.std.specs.Prelude.{◌≡◌, length};
 ghost use Rattle.steps.specs.Answer.{Narrowed, Enlarging, Finishing, Free, Closing};
 
+use crate::factored::Factored;
 use crate::prepare::Workings;
 use crate::share::share;
 use crate::trial::JoinedRows;
@@ -12,16 +12,10 @@ use tables::lead::lead_row;
 use tables::scale::multiply_rows;
 
 // The greatest common divisor of two tables, and its cofactors.
-#[derive(Clone, Copy)]
-pub struct Reduction {
-    pub divisor: [u64; 256],
-    pub left: [u64; 256],
-    pub right: [u64; 256],
-}
+pub type Reduction = Factored<256>;
 
-// The first 16 codes of each of 16 rows of 32.
-fn narrow(rows: &[u64]) -> [u64; 256]
-    requires { length rows.now ≡ 512 }
+// The first 16 codes of each of 16 rows of 32. By index: of what is written through chunks a proof keeps the length only.
+fn narrow(rows: &[u64; 512]) -> [u64; 256]
     ensures { Narrowed rows.now result }
 {
     let mut table = [0u64; 256];
@@ -34,10 +28,9 @@ fn narrow(rows: &[u64]) -> [u64; 256]
 // A table times a polynomial in y.
 fn enlarge<K: Coefficients>(
     kind: &K,
-    table: &[u64],
-    by: &[u64],
+    table: &[u64; 256],
+    by: &[u64; 16],
 ) -> Result<[u64; 256], DivisionFault>
-    requires { length table.now ≡ 256 }
     ensures { Enlarging (K.arithmetic kind.now) table.now by.now result }
 {
     let mut product = [0u64; 256];
@@ -52,18 +45,15 @@ fn enlarge<K: Coefficients>(
 fn finish<K: Coefficients>(
     kind: &K,
     workings: &Workings,
-    divisor: &[u64],
-    left: &[u64],
-    right: &[u64],
+    parts: &Factored<256>,
 ) -> Result<Reduction, DivisionFault>
-    requires { (length divisor.now ≡ 256) × ((length left.now ≡ 256) × (length right.now ≡ 256)) }
-    ensures { Finishing (K.arithmetic kind.now) workings.now divisor.now left.now right.now result }
+    ensures { Finishing (K.arithmetic kind.now) workings.now parts.now result }
 {
-    let shares = share(kind, &workings.left.content, &workings.right.content)?;
+    let contents = share(kind, &workings.left.content, &workings.right.content)?.rows;
     Ok(Reduction {
-        divisor: enlarge(kind, divisor, &shares.common)?,
-        left: enlarge(kind, left, &shares.left)?,
-        right: enlarge(kind, right, &shares.right)?,
+        divisor: enlarge(kind, &parts.divisor, &contents.divisor)?,
+        left: enlarge(kind, &parts.left, &contents.left)?,
+        right: enlarge(kind, &parts.right, &contents.right)?,
     })
 }
 
@@ -76,13 +66,12 @@ pub fn reduce_free<K: Coefficients>(
 {
     let mut one = [kind.zero(); 256];
     one[0] = kind.one();
-    finish(
-        kind,
-        workings,
-        &one,
-        &workings.left.rows,
-        &workings.right.rows,
-    )
+    let parts = Factored {
+        divisor: one,
+        left: workings.left.rows,
+        right: workings.right.rows,
+    };
+    finish(kind, workings, &parts)
 }
 
 // From what is joined at lucky points: the divisor without its content, and the cofactors without the leading coefficient of that.
@@ -102,11 +91,10 @@ pub fn reduce_joined<K: Coefficients>(
     divide_rows(kind, &joined.left, 32, &lead, &mut left)?;
     let mut right = [0u64; 512];
     divide_rows(kind, &joined.right, 32, &lead, &mut right)?;
-    finish(
-        kind,
-        workings,
-        &narrow(&part),
-        &narrow(&left),
-        &narrow(&right),
-    )
+    let parts = Factored {
+        divisor: narrow(&part),
+        left: narrow(&left),
+        right: narrow(&right),
+    };
+    finish(kind, workings, &parts)
 }

@@ -3,6 +3,8 @@
 #![tactic(auto)]
 
 pub mod answer;
+pub mod factored;
+pub mod images;
 pub mod look;
 pub mod prepare;
 pub mod share;

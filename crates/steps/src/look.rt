@@ -1,6 +1,7 @@
 // What is found where y is set to a point.
 ghost use Rattle.steps.specs.Look.{Imaging, Looking};
 
+use crate::factored::Factored;
 use crate::prepare::{Workings, degree};
 use crate::share::{Shares, share};
 use coefficients::kind::Coefficients;
@@ -12,18 +13,7 @@ use tables::faults::DivisionFault;
 #[derive(Clone, Copy)]
 pub struct ImageRows {
     pub degree: usize,
-    pub divisor: [u64; 16],
-    pub left: [u64; 16],
-    pub right: [u64; 16],
-}
-
-#[derive(Clone, Copy)]
-pub enum Finding {
-    // γ is zero there.
-    Vanishing,
-    Image(ImageRows),
-    // An element without a reciprocal stood in the way, in a kind that is no field.
-    Blocked(DivisionFault),
+    pub rows: Factored<16>,
 }
 
 // The images at a point where γ has some value.
@@ -39,31 +29,25 @@ fn images<K: Coefficients>(
     image_row(kind, &workings.left.rows, point, &mut a);
     let mut b = [0u64; 16];
     image_row(kind, &workings.right.rows, point, &mut b);
-    let Shares {
-        size,
-        mut common,
-        left,
-        right,
-    } = share(kind, &a, &b)?;
-    scale(kind, &mut common, value);
+    let Shares { size, mut rows } = share(kind, &a, &b)?;
+    scale(kind, &mut rows.divisor, value);
     Ok(ImageRows {
         degree: degree(size),
-        divisor: common,
-        left,
-        right,
+        rows,
     })
 }
 
-// Looks at a point.
-pub fn look<K: Coefficients>(kind: &K, workings: &Workings, point: u64) -> Finding
+// Looks at a point: nothing is found where γ is zero, and a kind that is no field may fail.
+pub fn look<K: Coefficients>(
+    kind: &K,
+    workings: &Workings,
+    point: u64,
+) -> Result<Option<ImageRows>, DivisionFault>
     ensures { Looking (K.arithmetic kind.now) workings.now point result }
 {
     let value = horner(kind, &workings.lead, point);
     if value == kind.zero() {
-        return Finding::Vanishing;
+        return Ok(None);
     }
-    match images(kind, workings, point, value) {
-        Ok(rows) => Finding::Image(rows),
-        Err(fault) => Finding::Blocked(fault),
-    }
+    Ok(Some(images(kind, workings, point, value)?))
 }

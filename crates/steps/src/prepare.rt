@@ -37,7 +37,7 @@ pub struct Workings {
 pub fn degree(n: usize) -> usize
     ensures { result ≡ pred n }
 {
-    if n == 0 { 0 } else { n - 1 }
+    n.saturating_sub(1)
 }
 
 // Splits the content off a table.
@@ -60,7 +60,8 @@ fn part_of<K: Coefficients>(kind: &K, table: &[u64]) -> Result<Part, DivisionFau
 
 // Prepares two tables.
 pub fn prepare<K: Coefficients>(kind: &K, a: &[u64], b: &[u64]) -> Result<Workings, DivisionFault>
-    requires { (length a.now ≡ 256) × (length b.now ≡ 256) }
+    requires a_long { length a.now ≡ 256 }
+    requires b_long { length b.now ≡ 256 }
     ensures { Preparing (K.arithmetic kind.now) a.now b.now result }
 {
     let left = part_of(kind, a)?;

@@ -2,6 +2,7 @@
 ghost use Rattle.std.specs.Prelude.{◌≡◌, length};
 ghost use Rattle.steps.specs.Share.{Sharing};
 
+use crate::factored::Factored;
 use coefficients::kind::Coefficients;
 use polynomials::gcd::gcd_row;
 use polynomials::rows::size;
@@ -12,9 +13,7 @@ use tables::faults::DivisionFault;
 #[derive(Clone, Copy)]
 pub struct Shares {
     pub size: usize,
-    pub common: [u64; 16],
-    pub left: [u64; 16],
-    pub right: [u64; 16],
+    pub rows: Factored<16>,
 }
 
 // Splits off what two rows share, of which one is not zero.
@@ -25,18 +24,20 @@ pub fn share<K: Coefficients>(
 ) -> Result<Shares, DivisionFault>
     ensures { Sharing (K.arithmetic kind.now) a.now b.now result }
 {
-    let mut common = *a;
+    let mut divisor = *a;
     let mut rest = *b;
-    gcd_row(kind, &mut common, &mut rest)?;
-    let count = size(kind, &common);
+    gcd_row(kind, &mut divisor, &mut rest)?;
+    let count = size(kind, &divisor);
     let mut left = [0u64; 16];
-    divide_even(kind, a, &common, &mut left)?;
+    divide_even(kind, a, &divisor, &mut left)?;
     let mut right = [0u64; 16];
-    divide_even(kind, b, &common, &mut right)?;
+    divide_even(kind, b, &divisor, &mut right)?;
     Ok(Shares {
         size: count,
-        common,
-        left,
-        right,
+        rows: Factored {
+            divisor,
+            left,
+            right,
+        },
     })
 }

@@ -1,28 +1,23 @@
-use Rattle.std.proofs.Common.{◌≡◌, cond, ltb, sym, refl, ap, ◌∙◌, le-ltb, lt-ltb}
+use Rattle.std.proofs.Common.{refl, ap}
 use Rattle.rules.specs.Job.{State}
 use Rattle.reducer.proofs.Sounds.{held_few, held_below}
 use Rattle.reducer.proofs.Keeping.{holds_with}
 use Rattle.reducer.proofs.Accepting.{stays_held}
 use Rattle.reducer.proofs.Completing.{carried}
 use Rattle.reducer.proofs.offering.hold.Goals as goal
-use Rattle.reducer.proofs.offering.hold.Goals.{then-rows-job, else-rows-job}
 
 pub returns-then-kept-job : goal.returns-then-kept-job
 returns-then-kept-job g c a b fit =
     let j = c.args.job.now in
-    let rows = c.args.rows.now in
-    let n_is : c.if-rows-job.kept ≡ cond (ltb rows.degree j.level) 0 j.counts.held =
-    elim c.if-rows-job.branch [ then-rows-job w ↦ w.kept-is ∙ sym (ap (λ x. cond x 0 j.counts.held) (lt-ltb rows.degree j.level w.if-rows-job.true)) | else-rows-job w ↦ w.kept-is ∙ sym (ap (λ x. cond x 0 j.counts.held) (le-ltb rows.degree j.level w.if-rows-job.false)) ] in
-    carried a b j c.args.point rows fit j.stored (held_few j fit.standing) (held_below j fit.standing) c.if-rows-job.kept n_is c.if-kept-job.true c.if-rows-eq0.false _ _ _ c.put_images.ensures.divisors c.put_images.ensures.lefts c.put_images.ensures.rights
-    _ c.hold_last.new.job c.hold_last.result (c.hold_last.ensures a b) refl refl refl refl refl refl refl refl refl
+    carried a b j c.args.point c.args.image.now fit j.stored (held_few j fit.standing) (held_below j fit.standing) c.kept_beside-kept.result c.kept_beside-kept.ensures c.if-kept-job.true c.if-image-eq0.false
+    _ c.put_images.ensures _ c.hold_last.new.job c.hold_last.result (c.hold_last.ensures a b) refl refl refl refl refl refl refl
 
 pub returns-else-kept-job : goal.returns-else-kept-job
 returns-else-kept-job g c a b fit =
     let j = c.args.job.now in
-    let rows = c.args.rows.now in
-    let n_is : c.if-rows-job.kept ≡ cond (ltb rows.degree j.level) 0 j.counts.held =
-    elim c.if-rows-job.branch [ then-rows-job w ↦ w.kept-is ∙ sym (ap (λ x. cond x 0 j.counts.held) (lt-ltb rows.degree j.level w.if-rows-job.true)) | else-rows-job w ↦ w.kept-is ∙ sym (ap (λ x. cond x 0 j.counts.held) (le-ltb rows.degree j.level w.if-rows-job.false)) ] in
+    let image = c.args.image.now in
+    let kept = c.kept_beside-kept.result in
     let few = held_few j fit.standing in
-    let holds = holds_with j rows.degree c.if-rows-job.kept n_is few a b c.args.point rows.divisor rows.left rows.right _ _ _ j.stored fit.gathers.holds fit.fresh.element fit.fresh.apart fit.low fit.images c.put_images.ensures.divisors c.put_images.ensures.lefts c.put_images.ensures.rights in
-    stays_held (g.met.K.Coefficients.laws c.args.kind.now) a b j c.args.point rows.degree rows.divisor rows.left rows.right fit.standing c.requires.1 fit.gathers fit.fresh fit.low fit.images j.stored few c.if-rows-job.kept n_is
-    c.if-rows-eq0.false c.if-kept-job.false _ _ _ holds c.keep.new.job c.keep.result c.keep.ensures.state c.keep.ensures.standing c.keep.ensures.answer c.keep.ensures.rows.workings (ap (λ (x : State). x.level) c.keep.ensures.state) c.keep.ensures.held c.keep.ensures.rows.points c.keep.ensures.rows.divisors c.keep.ensures.rows.lefts c.keep.ensures.rows.rights
+    let holds = holds_with j image.degree kept c.kept_beside-kept.ensures few a b c.args.point image.rows _ j.stored fit.gathers.holds fit.fresh.element fit.fresh.apart fit.low fit.images c.put_images.ensures in
+    stays_held (g.met.K.Coefficients.laws c.args.kind.now) a b j c.args.point image.degree image.rows.divisor image.rows.left image.rows.right fit.standing c.requires.room fit.gathers fit.fresh fit.low fit.images j.stored few kept c.kept_beside-kept.ensures
+    c.if-image-eq0.false c.if-kept-job.false _ holds c.keep.new.job c.keep.result c.keep.ensures.state c.keep.ensures.standing c.keep.ensures.answer c.keep.ensures.rows.workings (ap (λ (x : State). x.level) c.keep.ensures.state) c.keep.ensures.held c.keep.ensures.rows.points c.keep.ensures.rows.images

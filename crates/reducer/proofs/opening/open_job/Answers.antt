@@ -4,7 +4,7 @@ use Rattle.reducer.proofs.opening.open_job.Goals as goal
 pub prepare-requires : goal.prepare-requires
 prepare-requires g c =
     let t = tables (g.met.K.Coefficients.laws c.args.kind.now) c.args.a.now c.args.b.now c.in_default.ensures in
-    (t.A_long, t.B_long)
+    record { a_long = t.A_long; b_long = t.B_long }
 
 pub returns-in-Ok : goal.returns-in-Ok
 returns-in-Ok g c =

@@ -4,32 +4,10 @@ use Rattle.steps.specs.declared.prepare.Workings.{Workings}
 use Rattle.steps.proofs.Preparing.{lead_refused, workings}
 use Rattle.steps.proofs.prepare.prepare.Goals as goal
 
-pub returns-in_err-left : goal.returns-in_err-left
-returns-in_err-left g c =
-    let p = err_from_is_err_and c.from_residual.result c.from_residual.ensures.1 in
-    rw (p.1, p.2) λ ha hb na nb. c.in_err-left.ensures ha na
-
-pub returns-in_err-right : goal.returns-in_err-right
-returns-in_err-right g c =
-    let p = err_from_is_err_and c.from_residual-in_err-right.result c.from_residual-in_err-right.ensures.1 in
-    rw (p.1, p.2) λ ha hb na nb. c.in_err-right.ensures hb nb
-
 pub returns-in_err-lead_gcd : goal.returns-in_err-lead_gcd
 returns-in_err-lead_gcd g c =
     let p = err_from_is_err_and c.from_residual-in_err-lead_gcd.result c.from_residual-in_err-lead_gcd.ensures.1 in
     rw (p.1, p.2) λ ha hb na nb. lead_refused _ _ _ _ c.in_err-lead_gcd.ensures (c.in_ok-left.ensures.1 ha).rows_in (c.in_ok-right.ensures.1 hb).rows_in
-
-pub overflow_add-height_left : goal.overflow_add-height_left
-overflow_add-height_left g c = let l = c.in_ok-left.ensures.0.in_y in omega (arith, c.size.ensures.within, l)
-
-pub overflow_add-height_right : goal.overflow_add-height_right
-overflow_add-height_right g c = let r = c.in_ok-right.ensures.0.in_y in omega (arith, c.size.ensures.within, r)
-
-pub overflow_add-closing : goal.overflow_add-closing
-overflow_add-closing g c =
-    let l = c.in_ok-left.ensures.0.in_y in
-    let r = c.in_ok-right.ensures.0.in_y in
-    omega (arith, c.size.ensures.within, l, r)
 
 pub returns : goal.returns
 returns g c =

@@ -1,11 +1,6 @@
 use Rattle.std.proofs.lemmas.Result.{err_from_is_err_and}
-use Rattle.steps.proofs.Sharing.{stuck_faulty, left_refused, right_refused}
+use Rattle.steps.proofs.Sharing.{left_refused, right_refused}
 use Rattle.steps.proofs.share.share.Goals as goal
-
-pub returns-in_err-gcd_row : goal.returns-in_err-gcd_row
-returns-in_err-gcd_row g c =
-    let p = err_from_is_err_and c.from_residual.result c.from_residual.ensures.1 in
-    rw (p.1, p.2) λ ha hb nonzero. stuck_faulty _ (c.in_err-gcd_row.ensures ha hb).2
 
 pub returns-in_err-divide_even : goal.returns-in_err-divide_even
 returns-in_err-divide_even g c =

@@ -1,9 +1,6 @@
 use Rattle.std.proofs.Common.{rules}
-use Rattle.reducer.proofs.Collecting.{short, wrote}
+use Rattle.reducer.proofs.Collecting.{wrote}
 use Rattle.reducer.proofs.states.Closed.collect.Goals as goal
-
-pub returns-in-Gathering : goal.returns-in-Gathering
-returns-in-Gathering g c a b sound = short (g.K.Coefficients.arithmetic c.args.self.now.kind) a b c.args.self.now.job c.args.divisor.now c.args.cofactor_a.now c.args.cofactor_b.now c.counts.result c.counts.ensures c.in-Gathering.is
 
 pub returns : goal.returns
 returns g c a b sound =
