@@ -1,6 +1,6 @@
 -- Reading off the greatest common divisor and its cofactors: narrower rows, products by what the contents share, and what is joined without its leading coefficient.
 use borrow.Rule.Slice.PartMut.{put_mid}
-use Rattle.std.proofs.Common.{◌≡◌, ℕ, zero, suc, ◌+◌, ◌-◌, ◌*◌, ◌/◌, ◌<◌, ◌≤◌, true, false, ◌⊎◌, List, [], ◌∷◌, length, get_or, take, drop, set, replicate, Ok, Err, Result, sym, refl, ap, ◌∙◌, subst, ap₂, inl, inr, arith, length-append, length-drop, length-set, length-take, get_or-set_other, get_or-take, get_or-set_same}
+use Rattle.std.proofs.Common.{◌≡◌, ℕ, zero, suc, ◌+◌, ◌-◌, ◌*◌, ◌/◌, ◌<◌, ◌≤◌, true, ◌⊎◌, List, [], ◌∷◌, length, get_or, take, drop, set, replicate, Ok, Err, Result, sym, refl, ap, ◌∙◌, subst, ap₂, inl, inr, arith, length-append, length-drop, length-set, length-take, get_or-set_other, get_or-take, get_or-set_same}
 use mathlib.Core.Path.{fun_ext}
 use lib.ListN.{length-replicate, get_or-replicate}
 use Rattle.std.proofs.lemmas.List.{take-take}
@@ -29,6 +29,7 @@ use Rattle.polynomials.specs.Elements.{Element, element_same, element_discrete, 
 use Rattle.polynomials.specs.Rows.{Inside, Sized, cut_row}
 use Rattle.polynomials.proofs.Meaning.{of_polynomial, code_one, code_at, zero_at, cleared}
 use Rattle.polynomials.proofs.Inverse.{zero_product, factor_in, stuck}
+use Rattle.polynomials.specs.declared.product.NoRoom.{NoRoom}
 use Rattle.tables.specs.declared.faults.DivisionFault.{DivisionFault}
 use Rattle.tables.specs.declared.faults.DivisionFault.TheVariants.{Reciprocal, Uneven}
 use Rattle.tables.specs.Content.{lifted, EvenRows}
@@ -134,8 +135,8 @@ factor_within F A G H e nonzero n within k =
     omega arith
 
 -- over a field there is room for a product with no power of y above the 15th
-pub no_room : {K : Arithmetic} → Laws K → (t c p : List ℕ) → ManyTimes K 16 t c p false → Enlarging K t c (Err Uneven)
-no_room {K = K} laws t c p told ht hc small = λ only.
+pub no_room : {K : Arithmetic} → Laws K → (t c p : List ℕ) → (e : NoRoom) → ManyTimes K 16 t c p (Err e) → Enlarging K t c (Err Uneven)
+no_room {K = K} laws t c p e told ht hc small = λ only.
     let product : Poly₂ (elements laws) (element_discrete K) = (poly₂ (elements laws) (element_discrete K)).mul (lifted laws c) (table laws t) in
     let over : 16 < width_over laws only product = ((told ht hc).1 laws).large only in
     let same : width_over laws only product ≡ width (scalars laws only) product = width_here laws only product in

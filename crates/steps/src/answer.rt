@@ -6,9 +6,9 @@ use crate::prepare::Workings;
 use crate::share::share;
 use crate::trial::JoinedRows;
 use coefficients::kind::Coefficients;
-use tables::content::{divide_rows, take_content};
+use tables::content::divide_rows;
 use tables::faults::DivisionFault;
-use tables::lead::lead_row;
+use tables::rows::Rows;
 use tables::scale::multiply_rows;
 
 // The greatest common divisor of two tables, and its cofactors.
@@ -34,11 +34,12 @@ fn enlarge<K: Coefficients>(
     ensures { Enlarging (K.arithmetic kind.now) table.now by.now result }
 {
     let mut product = [0u64; 256];
-    if multiply_rows(kind, table, 16, by, &mut product) {
-        Ok(product)
-    } else {
-        Err(DivisionFault::Uneven)
-    }
+    let rows = Rows {
+        codes: table,
+        width: 16,
+    };
+    multiply_rows(kind, &rows, by, &mut product)?;
+    Ok(product)
 }
 
 // From the greatest common divisor of the parts, and its cofactors, to those of the tables.
@@ -84,13 +85,29 @@ pub fn reduce_joined<K: Coefficients>(
 {
     let mut content = [0u64; 32];
     let mut part = [0u64; 512];
-    take_content(kind, &joined.divisor, 32, &mut content, &mut part)?;
+    let rows = Rows {
+        codes: &joined.divisor,
+        width: 32,
+    };
+    rows.take_content(kind, &mut content, &mut part)?;
     let mut lead = [0u64; 32];
-    lead_row(kind, &part, 32, &mut lead);
+    let rows = Rows {
+        codes: &part,
+        width: 32,
+    };
+    rows.lead_row(kind, &mut lead);
     let mut left = [0u64; 512];
-    divide_rows(kind, &joined.left, 32, &lead, &mut left)?;
+    let rows = Rows {
+        codes: &joined.left,
+        width: 32,
+    };
+    divide_rows(kind, &rows, &lead, &mut left)?;
     let mut right = [0u64; 512];
-    divide_rows(kind, &joined.right, 32, &lead, &mut right)?;
+    let rows = Rows {
+        codes: &joined.right,
+        width: 32,
+    };
+    divide_rows(kind, &rows, &lead, &mut right)?;
     let parts = Factored {
         divisor: narrow(&part),
         left: narrow(&left),

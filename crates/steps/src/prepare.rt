@@ -4,10 +4,9 @@ ghost use Rattle.steps.specs.Prepare.{Parting, Preparing};
 
 use coefficients::kind::Coefficients;
 use polynomials::rows::size;
-use tables::content::take_content;
-use tables::degrees::{size_x, size_y};
 use tables::faults::DivisionFault;
 use tables::lead::lead_gcd;
+use tables::rows::Rows;
 
 // A table without its content, and its degrees.
 #[derive(Clone, Copy)]
@@ -47,9 +46,17 @@ fn part_of<K: Coefficients>(kind: &K, table: &[u64]) -> Result<Part, DivisionFau
 {
     let mut content = [0u64; 16];
     let mut rows = [0u64; 256];
-    take_content(kind, table, 16, &mut content, &mut rows)?;
-    let degree_x = degree(size_x(kind, &rows, 16));
-    let degree_y = degree(size_y(kind, &rows, 16));
+    let whole = Rows {
+        codes: table,
+        width: 16,
+    };
+    whole.take_content(kind, &mut content, &mut rows)?;
+    let part = Rows {
+        codes: &rows,
+        width: 16,
+    };
+    let degree_x = degree(part.size_x(kind));
+    let degree_y = degree(part.size_y(kind));
     Ok(Part {
         content,
         rows,
@@ -67,7 +74,15 @@ pub fn prepare<K: Coefficients>(kind: &K, a: &[u64], b: &[u64]) -> Result<Workin
     let left = part_of(kind, a)?;
     let right = part_of(kind, b)?;
     let mut lead = [0u64; 16];
-    lead_gcd(kind, &left.rows, &right.rows, 16, &mut lead)?;
+    let a = Rows {
+        codes: &left.rows,
+        width: 16,
+    };
+    let b = Rows {
+        codes: &right.rows,
+        width: 16,
+    };
+    lead_gcd(kind, &a, &b, &mut lead)?;
     let lead_degree = degree(size(kind, &lead));
     let height_left = lead_degree + left.degree_y;
     let height_right = lead_degree + right.degree_y;

@@ -1,13 +1,15 @@
 // Joining the images at points, and the test of what is joined.
+ghost use Rattle.std.specs.Prelude.{◌≡◌, ℕ, ◌<◌, pred};
+ghost use Rattle.tables.specs.Degrees.{SizeY};
 ghost use Rattle.steps.specs.Trial.{Joins, Trying};
 
 use crate::factored::Factored;
 use crate::images::Images;
 use crate::prepare::{Workings, degree};
 use coefficients::kind::Coefficients;
-use tables::degrees::size_y;
 use tables::faults::DivisionFault;
 use tables::join::join;
+use tables::rows::Rows;
 
 // What is joined from images, as rows of 32 codes.
 pub type JoinedRows = Factored<512>;
@@ -26,12 +28,21 @@ pub fn join_images<K: Coefficients>(
     Ok(joined)
 }
 
+// The degree in y of 16 rows of 32 codes.
+fn height_of<K: Coefficients>(kind: &K, codes: &[u64; 512]) -> usize
+    ensures degree { (n : ℕ) × SizeY (K.arithmetic kind.now) 32 codes.now n × (result ≡ pred n) }
+    ensures few { result < 32 }
+{
+    let rows = Rows { codes, width: 32 };
+    degree(rows.size_y(kind))
+}
+
 // Whether the degrees in y of what is joined add up.
 pub fn passes<K: Coefficients>(kind: &K, workings: &Workings, joined: &JoinedRows) -> bool
     ensures { Trying (K.arithmetic kind.now) workings.now joined.now result }
 {
-    let height = degree(size_y(kind, &joined.divisor, 32));
-    let left = degree(size_y(kind, &joined.left, 32));
-    let right = degree(size_y(kind, &joined.right, 32));
+    let height = height_of(kind, &joined.divisor);
+    let left = height_of(kind, &joined.left);
+    let right = height_of(kind, &joined.right);
     workings.height_left == height + left && workings.height_right == height + right
 }
