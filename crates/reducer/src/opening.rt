@@ -81,17 +81,6 @@ fn check<K: Coefficients>(kind: &K, a: &[u64], b: &[u64]) -> Result<(), Refusal>
     check_lead(kind, b, right)
 }
 
-const NONE: Counts = Counts {
-    offered: 0,
-    foreign: 0,
-    repeated: 0,
-    vanishing: 0,
-    high: 0,
-    late: 0,
-    dropped: 0,
-    held: 0,
-};
-
 // A job that begins.
 fn begin(standing: Standing, workings: Workings) -> Job
     requires room { wanted standing 0 ≤ workings.closing }
@@ -102,7 +91,7 @@ fn begin(standing: Standing, workings: Workings) -> Job
         standing,
         ceiling: workings.ceiling,
         level: 0,
-        counts: NONE,
+        counts: Counts::default(),
         workings,
         points: [0; 31],
         images: Factored::zeros(),
