@@ -16,9 +16,6 @@ use Rattle.reducer.specs.State.{stage_of, state_of}
 use Rattle.reducer.specs.Sound.{Settles, SoundAs, Sound}
 use Rattle.reducer.specs.Promises.{Collects}
 
-no_answer : {A : Type 0} {e : Refusal} → ◌≡◌ {A = Result (Unit {0}) Refusal} (Err e) (Ok tt) → A
-no_answer h = let z : ◌≡◌ {A = ℕ} 0 1 = cc in absurd (omega arith)
-
 module _ (K : Arithmetic) (a b : List ℕ) (j : Job) (d l r : List ℕ) where
   abbrev s : State
   s = state_of j
