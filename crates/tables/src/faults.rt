@@ -6,7 +6,7 @@ use coefficients::kind::ReciprocalFault;
 use polynomials::product::NoRoom;
 
 // Why a division that must come out even is refused.
-#[derive(Clone, Copy)]
+#[derive(Clone, Copy, Debug, PartialEq, Eq)]
 pub enum DivisionFault {
     // The divisor's leading coefficient has no reciprocal: zero where the divisor is zero.
     Reciprocal(ReciprocalFault),
