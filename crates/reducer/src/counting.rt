@@ -8,7 +8,7 @@ ghost use Rattle.rules.specs.Offer.{raised};
 use rules::counts::Counts;
 
 // The classes in which an offer changes nothing but a count.
-#[derive(Clone, Copy)]
+#[derive(Clone, Copy, Debug, PartialEq, Eq)]
 pub enum Tallied {
     Foreign,
     Repeated,

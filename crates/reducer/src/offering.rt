@@ -27,7 +27,7 @@ use steps::verdict::decide;
 use tables::faults::DivisionFault;
 
 // What a job is when a point is offered.
-#[derive(Clone, Copy)]
+#[derive(Clone, Copy, Debug, PartialEq, Eq)]
 pub enum Phase {
     Void(Refusal),
     Full,

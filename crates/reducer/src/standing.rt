@@ -1,7 +1,7 @@
 // What a job is.
 use rules::refusal::Refusal;
 
-#[derive(Clone, Copy)]
+#[derive(Clone, Copy, Debug, PartialEq, Eq)]
 pub enum Standing {
     // It takes points.
     Gathering,
