@@ -79,7 +79,7 @@ impl<'a, K: Coefficients> Divisor<'a, K> {
         ensures left { Lessened (K.arithmetic self.now.kind.now) rest.old rest.new shift result self.now.row.now self.now.count }
     {
         let factor = self.kind.mul(rest[shift + self.count - 1], self.inverse);
-        lessen(self.kind, rest, shift, factor, self.row, self.count);
+        lessen(self.kind, rest, shift, factor, &self.row[..self.count]);
         factor
     }
 
