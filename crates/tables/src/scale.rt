@@ -4,9 +4,9 @@ ghost use Rattle.tables.specs.Scale.{ManyTimes, MonicRows};
 
 use crate::rows::{Rows, row_start};
 use coefficients::kind::{Coefficients, ReciprocalFault};
-use polynomials::divide::lead_inverse;
+use polynomials::divide::Divisor;
 use polynomials::product::{NoRoom, multiply_row};
-use polynomials::rows::{clear, scale, size};
+use polynomials::rows::{clear, scale};
 
 // Writes each row times `by` into `product`, if there is room for all of them.
 pub fn multiply_rows<K: Coefficients>(
@@ -45,7 +45,7 @@ pub fn make_monic_rows<K: Coefficients>(
         return Ok(0);
     }
     let lead = view.row(n - 1);
-    let inverse = lead_inverse(kind, lead, size(kind, lead))?;
+    let inverse = Divisor::new(kind, lead)?.inverse();
     scale(kind, rows, inverse);
     Ok(n)
 }
