@@ -19,11 +19,11 @@ pub fn multiply_rows<K: Coefficients>(
     ensures { ManyTimes (K.arithmetic kind.now) rows.now.width rows.now.codes.now by.now product.new result }
 {
     clear(kind, product);
-    // Rows by number: chunks of width 0 are refused, and after a loop over `chunks_exact_mut` a proof knows nothing of what was written.
-    for i in 0..16 {
+    // The product's rows by number: chunks of width 0 are refused.
+    for (i, row) in rows.each().iter().enumerate() {
         let start = row_start(rows.width, i);
         let end = start + rows.width;
-        multiply_row(kind, by, rows.row(i), &mut product[start..end])?;
+        multiply_row(kind, by, row, &mut product[start..end])?;
     }
     Ok(())
 }
