@@ -1,5 +1,5 @@
 -- Rows of a table as coefficients of x^i, and the sizes in x and in y.
-use Rattle.std.proofs.Common.{get_or, ◌≡◌, ℕ, zero, suc, ◌+◌, ◌-◌, ◌*◌, ◌<◌, ◌≤◌, ◌⊎◌, max, List, [], length, take, drop, sym, refl, ap, ◌∙◌, subst, ap₂, inl, inr, mul_comm, mul-le-mul_left, arith, length-drop, length-take, get_or-drop, get_or-take}
+use Rattle.std.proofs.Common.{get_or, ◌≡◌, ℕ, zero, suc, ◌+◌, ◌-◌, ◌*◌, ◌<◌, ◌≤◌, ◌⊎◌, List, [], length, take, drop, sym, refl, ap, ◌∙◌, subst, ap₂, inl, inr, mul_comm, mul-le-mul_left, arith, length-drop, length-take, get_or-drop, get_or-take}
 use Rattle.std.proofs.lemmas.List.{drop_all}
 use Rattle.std.proofs.lemmas.Bool.{cases_lt}
 use Rattle.coefficients.specs.Arithmetic.{Arithmetic, Laws}

@@ -12,6 +12,7 @@ impl Rows<'_> {
     fn sizes<K: Coefficients>(&self, kind: &K) -> [usize; 16]
         ensures { (i : ℕ) → i < 16 → Sized (K.arithmetic kind.now) (cut_row self.now.width self.now.codes.now i) (slice_index result i) }
     {
+        // By a loop: through the closure of `map` or `from_fn` the proof did not close.
         let mut sizes = [0; 16];
         for (i, row) in self.each().iter().enumerate() {
             sizes[i] = size(kind, row);

@@ -1,4 +1,4 @@
-use Rattle.std.proofs.Common.{rules, ◌≡◌, ℕ, ◌<◌, ◌≤◌, slice_index, arith}
+use Rattle.std.proofs.Common.{rules}
 use Rattle.std.proofs.iter.runs.Made.{chains}
 use Rattle.tables.proofs.Sizes.{sized_y, size_y_is}
 use Rattle.tables.proofs.rows.Rows.size_y.Goals as goal
