@@ -9,6 +9,7 @@ use coefficients::kind::Coefficients;
 use tables::content::{divide_rows, take_content};
 use tables::faults::DivisionFault;
 use tables::lead::lead_row;
+use tables::rows::Rows;
 use tables::scale::multiply_rows;
 
 // The greatest common divisor of two tables, and its cofactors.
@@ -25,8 +26,8 @@ fn narrow(rows: &[u64]) -> [u64; 256]
     ensures { Narrowed rows.now result }
 {
     let mut table = [0u64; 256];
-    for i in 0..16usize {
-        table[16 * i..16 * i + 16].copy_from_slice(&rows[32 * i..32 * i + 16]);
+    for (i, row) in Rows::new(rows, 32).each().iter().enumerate() {
+        table[16 * i..16 * i + 16].copy_from_slice(&row[..16]);
     }
     table
 }
