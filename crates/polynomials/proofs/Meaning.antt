@@ -1,5 +1,5 @@
 -- Rows of codes and the polynomials that they mean.
-use Rattle.std.proofs.Common.{◌≡◌, ℕ, zero, suc, ◌+◌, ◌-◌, ◌<◌, ◌≤◌, true, cond, ◌≢◌, ◌⊎◌, List, length, get_or, set, sym, refl, ap, ◌∙◌, ap₂, inl, inr, arith, length-set, get_or-set_other, get_or-set_same}
+use Rattle.std.proofs.Common.{◌≡◌, ℕ, zero, suc, ◌+◌, ◌-◌, ◌<◌, ◌≤◌, true, cond, ◌≢◌, ◌⊎◌, List, length, get_or, set, sym, refl, ap, ◌∙◌, ap₂, inl, inr, arith, take, length-take, get_or-take, length-set, get_or-set_other, get_or-set_same}
 use mathlib.Core.Path.{fun_ext}
 use Rattle.std.proofs.lemmas.List.{get_or_past, get_or_default}
 use Rattle.std.proofs.lemmas.Bool.{cond-true, cases_lt, cases_eq}
@@ -175,3 +175,11 @@ lessened_inside {K} laws p p' s c b n len h L i lt = go (cases_lt i s) (cases_lt
         let e : s + (i - s) ≡ i = omega arith in
         ap (λ j. K.element (get_or p' j 0)) (sym e) ∙ ap K.element (L.inside (i - s) (omega arith)) ∙ laws.difference_in _ _
     go (inr x) (inr y) = ap K.element (L.above i y) ∙ h i (omega arith)
+
+-- what the first n codes of a row leave
+pub lessened_take : {K : Arithmetic} (p p' : List ℕ) (s c : ℕ) (b : List ℕ) (n : ℕ) → n ≤ length b → Lessened K p p' s c (take n b) (length (take n b)) → Lessened K p p' s c b n
+lessened_take {K} p p' s c b n le L = record {
+  inside = λ j lt. L.inside j (let e = length-take n b in omega arith) ∙ ap (λ x. K.difference (get_or p (s + j) 0) (K.product c x)) (get_or-take n b j 0 lt);
+  below = L.below;
+  above = λ i over. L.above i (let e = length-take n b in omega arith);
+}

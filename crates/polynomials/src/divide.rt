@@ -1,5 +1,5 @@
 // Division with remainder.
-ghost use Rattle.std.specs.Prelude.{◌≡◌, ℕ, ◌+◌, ◌-◌, ◌<◌, ◌≤◌, length, MatchResult, IfOk, IfErr, slice_index};
+ghost use Rattle.std.specs.Prelude.{◌≡◌, ℕ, ◌+◌, ◌-◌, ◌<◌, ◌≤◌, length, IfOk, IfErr, slice_index};
 ghost use Rattle.polynomials.specs.Rows.{Sized};
 ghost use Rattle.polynomials.specs.Steps.{Lessened, Inverts, Undivided, Divided, Division, Reduced, Reduction};
 ghost use Rattle.polynomials.specs.Calls.{Dividing};
@@ -29,22 +29,6 @@ pub fn divide<K: Coefficients>(
     Ok(())
 }
 
-// The reciprocal of the leading code of `by`, whose size is `count`.
-pub fn lead_inverse<K: Coefficients>(
-    kind: &K,
-    by: &[u64],
-    count: usize,
-) -> Result<u64, ReciprocalFault>
-    requires { Sized (K.arithmetic kind.now) by.now count }
-    ensures { MatchResult result (λ i. Inverts (K.arithmetic kind.now) by.now count i) (λ e. Undivided (K.arithmetic kind.now) by.now e) }
-{
-    if count == 0 {
-        Err(ReciprocalFault::NoReciprocal(kind.zero()))
-    } else {
-        kind.reciprocal(by[count - 1])
-    }
-}
-
 // A row to divide by, with its size and the reciprocal of its leading code.
 #[derive(Drop)]
 pub struct Divisor<'a, K: Coefficients> {
@@ -63,13 +47,23 @@ impl<'a, K: Coefficients> Divisor<'a, K> {
         ensures err { IfErr result (λ e. Undivided (K.arithmetic kind.now) row.now e) }
     {
         let count = size(kind, row);
-        let inverse = lead_inverse(kind, row, count)?;
+        if count == 0 {
+            return Err(ReciprocalFault::NoReciprocal(kind.zero()));
+        }
+        let inverse = kind.reciprocal(row[count - 1])?;
         Ok(Divisor {
             kind,
             row,
             count,
             inverse,
         })
+    }
+
+    // The reciprocal of the row's leading code.
+    pub fn inverse(&self) -> u64
+        ensures { (n : ℕ) → Sized (K.arithmetic self.now.kind.now) self.now.row.now n → Inverts (K.arithmetic self.now.kind.now) self.now.row.now n result }
+    {
+        self.inverse
     }
 
     // Clears the place `shift + count - 1` of `rest` by a multiple of the divisor, and answers the factor.
@@ -79,7 +73,7 @@ impl<'a, K: Coefficients> Divisor<'a, K> {
         ensures left { Lessened (K.arithmetic self.now.kind.now) rest.old rest.new shift result self.now.row.now self.now.count }
     {
         let factor = self.kind.mul(rest[shift + self.count - 1], self.inverse);
-        lessen(self.kind, rest, shift, factor, self.row, self.count);
+        lessen(self.kind, rest, shift, factor, &self.row[..self.count]);
         factor
     }
 

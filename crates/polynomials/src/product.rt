@@ -36,7 +36,7 @@ pub fn multiply_row<K: Coefficients>(
     }
     for (i, code) in a[..terms].iter().enumerate() {
         let negative = kind.sub(kind.zero(), *code);
-        lessen(kind, product, i, negative, b, count);
+        lessen(kind, product, i, negative, &b[..count]);
     }
     Ok(())
 }

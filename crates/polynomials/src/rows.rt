@@ -37,20 +37,12 @@ pub fn clear<K: Coefficients>(kind: &K, row: &mut [u64])
     row.fill(kind.zero());
 }
 
-// Takes `by` times the first `count` codes of `row`, moved up by `shift`, from `acc`.
-pub fn lessen<K: Coefficients>(
-    kind: &K,
-    acc: &mut [u64],
-    shift: usize,
-    by: u64,
-    row: &[u64],
-    count: usize,
-)
-    requires room { shift + count ≤ length acc.old }
-    requires codes { count ≤ length row.now }
-    ensures { Lessened (K.arithmetic kind.now) acc.old acc.new shift by row.now count }
+// Takes `by` times `row`, moved up by `shift`, from `acc`.
+pub fn lessen<K: Coefficients>(kind: &K, acc: &mut [u64], shift: usize, by: u64, row: &[u64])
+    requires { shift + length row.now ≤ length acc.old }
+    ensures { Lessened (K.arithmetic kind.now) acc.old acc.new shift by row.now (length row.now) }
 {
-    for (j, code) in row[..count].iter().enumerate() {
+    for (j, code) in row.iter().enumerate() {
         acc[shift + j] = kind.sub(acc[shift + j], kind.mul(by, *code));
     }
 }

@@ -3,7 +3,6 @@ use borrow.Rule.Slice.PartMut.{put_mid}
 use Rattle.std.proofs.Common.{◌≡◌, ℕ, zero, suc, ◌+◌, ◌-◌, ◌*◌, ◌/◌, ◌<◌, ◌≤◌, true, ◌⊎◌, List, [], ◌∷◌, length, get_or, take, drop, set, replicate, Ok, Err, Result, sym, refl, ap, ◌∙◌, subst, ap₂, inl, inr, arith, length-append, length-drop, length-set, length-take, get_or-set_other, get_or-take, get_or-set_same}
 use mathlib.Core.Path.{fun_ext}
 use lib.ListN.{length-replicate, get_or-replicate}
-use Rattle.std.proofs.lemmas.List.{take-take}
 use Rattle.std.proofs.lemmas.Bool.{cases_lt}
 use Rattle.coefficients.specs.Arithmetic.{Arithmetic, Laws, IsField}
 use Rattle.algebra.specs.Ring.{mul_comm, one_mul}
@@ -56,12 +55,9 @@ pub record Copied (t r : List ℕ) (i : ℕ) : Type 0 where
   pub long : length r ≡ 256
   pub rows : (k : ℕ) → k < i → cut_row 16 r k ≡ take 16 (cut_row 32 t k)
 
-pub copied_more : (t r y : List ℕ) (i n : ℕ) → length t ≡ 512 → i < 16 → n ≡ 16 → y ≡ take (32 * i + 16 - 32 * i) (drop (32 * i) t) → Copied t r i → Copied t (put_mid (16 * i) n r y) (i + 1)
-copied_more t r y i n lt within width is h = record { long = whole; rows = λ k lk. go k (cases_lt k i) lk }
+pub copied_more : (t r y : List ℕ) (i n : ℕ) → length t ≡ 512 → i < 16 → n ≡ 16 → y ≡ take 16 (cut_row 32 t i) → Copied t r i → Copied t (put_mid (16 * i) n r y) (i + 1)
+copied_more t r y i n lt within width half h = record { long = whole; rows = λ k lk. go k (cases_lt k i) lk }
   where
-    half : y ≡ take 16 (cut_row 32 t i)
-    half = let e : 32 * i + 16 - 32 * i ≡ 16 = omega arith in is ∙ ap (λ m. take m (drop (32 * i) t)) e ∙ sym (take-take 16 32 (drop (32 * i) t) (omega arith))
-
     wide : length y ≡ 16
     wide =
         let a = ap length half in

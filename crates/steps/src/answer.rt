@@ -14,13 +14,13 @@ use tables::scale::multiply_rows;
 // The greatest common divisor of two tables, and its cofactors.
 pub type Reduction = Factored<256>;
 
-// The first 16 codes of each of 16 rows of 32. By index: of what is written through chunks a proof keeps the length only.
+// The first 16 codes of each of 16 rows of 32. The places written go by number: of what is written through chunks a proof keeps the length only.
 fn narrow(rows: &[u64; 512]) -> [u64; 256]
     ensures { Narrowed rows.now result }
 {
     let mut table = [0u64; 256];
-    for i in 0..16usize {
-        table[16 * i..16 * i + 16].copy_from_slice(&rows[32 * i..32 * i + 16]);
+    for (i, row) in Rows::new(rows, 32).each().iter().enumerate() {
+        table[16 * i..16 * i + 16].copy_from_slice(&row[..16]);
     }
     table
 }

@@ -1,5 +1,5 @@
 -- Rows of a table as coefficients of x^i, and the sizes in x and in y.
-use Rattle.std.proofs.Common.{◌≡◌, ℕ, zero, suc, ◌+◌, ◌-◌, ◌*◌, ◌<◌, ◌≤◌, ◌⊎◌, max, List, [], length, take, drop, sym, refl, ap, ◌∙◌, subst, ap₂, inl, inr, mul_comm, mul-le-mul_left, arith, length-drop, length-take, get_or-drop, get_or-take}
+use Rattle.std.proofs.Common.{get_or, ◌≡◌, ℕ, zero, suc, ◌+◌, ◌-◌, ◌*◌, ◌<◌, ◌≤◌, ◌⊎◌, List, [], length, take, drop, sym, refl, ap, ◌∙◌, subst, ap₂, inl, inr, mul_comm, mul-le-mul_left, arith, length-drop, length-take, get_or-drop, get_or-take}
 use Rattle.std.proofs.lemmas.List.{drop_all}
 use Rattle.std.proofs.lemmas.Bool.{cases_lt}
 use Rattle.coefficients.specs.Arithmetic.{Arithmetic, Laws}
@@ -79,36 +79,21 @@ sized_zero K l m s e j lt = s.zeros j (omega arith) lt
 pub sized_some : (K : Arithmetic) (l : List ℕ) (m : ℕ) → Sized K l m → (m ≡ 0 → ⊥) → ZeroRow K l → ⊥
 sized_some K l m s n z = let w = s.within in s.lead (omega arith) (z (m - 1) (omega arith))
 
--- n is the largest size of the first i rows
-pub record Largest (K : Arithmetic) (w : ℕ) (t : List ℕ) (i n : ℕ) : Type 0 where
-  pub within : n ≤ w
-  pub sizes : (k : ℕ) → k < i → (m : ℕ) × Sized K (cut_row w t k) m × (m ≤ n)
-  pub some : 0 < n → (k : ℕ) × (k < i) × Sized K (cut_row w t k) n
-
 module _ (K : Arithmetic) (w : ℕ) (t : List ℕ) where
-  pub largest_none : Largest K w t 0 0
-  largest_none = record { within = omega arith; sizes = λ k lt. absurd (omega arith); some = λ lt. absurd (omega arith) }
-
-  pub largest_more : (i n m x : ℕ) → Largest K w t i n → Sized K (cut_row w t i) m → x ≡ max n m → Largest K w t (i + 1) x
-  largest_more i n m x h s e = record {
-    within = let a = h.within in let b = s.within in let c = row_length w t i in omega arith;
-    sizes = λ k l. go k (cases_lt k i) l;
-    some = λ pos. one (cases_lt n m) pos;
+  -- n is the largest of the rows' sizes
+  pub sized_y : (sizes : List ℕ) (n : ℕ) → ((i : ℕ) → i < 16 → Sized K (cut_row w t i) (get_or sizes i 0)) → ((i : ℕ) → i < 16 → get_or sizes i 0 ≤ n) → (0 < n → (i : ℕ) × (i < 16) × (get_or sizes i 0 ≡ n)) → SizedY K w t n
+  sized_y sizes n each below one = record {
+    within = narrow (cases_lt 0 n);
+    sizes = λ i lt. (get_or sizes i 0, each i lt, below i lt);
+    some = some;
   }
     where
-      go : (k : ℕ) → (k < i) ⊎ (i ≤ k) → k < i + 1 → (y : ℕ) × Sized K (cut_row w t k) y × (y ≤ x)
-      go k (inl l) b = let (y, z, le) = h.sizes k l in (y, z, omega arith)
-      go k (inr l) b = let z : i ≡ k = omega arith in (m, subst (λ (k : ℕ). Sized K (cut_row w t k) m) z s, omega arith)
+      some : 0 < n → (i : ℕ) × (i < 16) × Sized K (cut_row w t i) n
+      some pos = let (i, lt, e) = one pos in (i, lt, subst (λ (m : ℕ). Sized K (cut_row w t i) m) e (each i lt))
 
-      one : (n < m) ⊎ (m ≤ n) → 0 < x → (k : ℕ) × (k < i + 1) × Sized K (cut_row w t k) x
-      one (inl lt) pos = let z : m ≡ x = omega arith in (i, omega arith, subst (λ (y : ℕ). Sized K (cut_row w t i) y) z s)
-      one (inr le) pos =
-          let z : n ≡ x = omega arith in
-          let (k, l, y) = h.some (omega arith) in
-          (k, omega arith, subst (λ (y : ℕ). Sized K (cut_row w t k) y) z y)
-
-  pub largest_all : (i n : ℕ) → i ≡ 16 → Largest K w t i n → SizedY K w t n
-  largest_all i n e h = record { within = h.within; sizes = λ k lt. h.sizes k (omega arith); some = λ pos. let (k, l, s) = h.some pos in (k, omega arith, s) }
+      narrow : (0 < n) ⊎ (n ≤ 0) → n ≤ w
+      narrow (inl pos) = let (i, lt, s) = some pos in let a = s.within in let b = row_length w t i in omega arith
+      narrow (inr none) = omega arith
 
   pub size_y_is : (n : ℕ) → length t ≡ 16 * w → SizedY K w t n → SizeY K w t n
   unfolding field

@@ -60,11 +60,11 @@ pub fn divide_rows<K: Coefficients>(
     ensures { EvenRows (K.arithmetic kind.now) rows.now.width rows.now.codes.now by.now quotient.new result }
 {
     clear(kind, quotient);
-    // Rows by number: chunks of width 0 are refused, and after a loop over `chunks_exact_mut` a proof knows nothing of what was written.
-    for i in 0..16 {
+    // The quotient's rows by number: chunks of width 0 are refused.
+    for (i, row) in rows.each().iter().enumerate() {
         let start = row_start(rows.width, i);
         let end = start + rows.width;
-        divide_even(kind, rows.row(i), by, &mut quotient[start..end])?;
+        divide_even(kind, row, by, &mut quotient[start..end])?;
     }
     Ok(())
 }
@@ -81,9 +81,8 @@ impl Rows<'_> {
     {
         clear(kind, content);
         let mut n = 0;
-        // Rows by number: chunks of width 0 are refused.
-        for i in 0..16 {
-            n = gather_row(kind, self.row(i), content)?;
+        for row in self.each() {
+            n = gather_row(kind, row, content)?;
             if n == 1 {
                 return Ok(n);
             }

@@ -1,4 +1,6 @@
 // Sizes of polynomials in x and y, as 16 rows of `width` codes that stand one after the other: the i-th has the coefficients of x^i.
+ghost use Rattle.std.specs.Prelude.{ℕ, ◌<◌, slice_index};
+ghost use Rattle.polynomials.specs.Rows.{Sized, cut_row};
 ghost use Rattle.tables.specs.Degrees.{SizedX, SizeX, SizedY, SizeY};
 
 use crate::rows::Rows;
@@ -6,17 +8,27 @@ use coefficients::kind::Coefficients;
 use polynomials::rows::size;
 
 impl Rows<'_> {
+    // The size of each row.
+    fn sizes<K: Coefficients>(&self, kind: &K) -> [usize; 16]
+        ensures { (i : ℕ) → i < 16 → Sized (K.arithmetic kind.now) (cut_row self.now.width self.now.codes.now i) (slice_index result i) }
+    {
+        // By a loop: through the closure of `map` or `from_fn` the proof did not close.
+        let mut sizes = [0; 16];
+        for (i, row) in self.each().iter().enumerate() {
+            sizes[i] = size(kind, row);
+        }
+        sizes
+    }
+
     // The size in x: one more than the place of the last row that is not zero, or 0.
     pub fn size_x<K: Coefficients>(&self, kind: &K) -> usize
         ensures codes { SizedX (K.arithmetic kind.now) self.now.width self.now.codes.now result }
         ensures size { SizeX (K.arithmetic kind.now) self.now.width self.now.codes.now result }
     {
-        for i in (0..16).rev() {
-            if size(kind, self.row(i)) > 0 {
-                return i + 1;
-            }
-        }
-        0
+        self.sizes(kind)
+            .iter()
+            .rposition(|n| *n > 0)
+            .map_or(0, |last| last + 1)
     }
 
     // The size in y: the largest size of a row.
@@ -24,11 +36,6 @@ impl Rows<'_> {
         ensures codes { SizedY (K.arithmetic kind.now) self.now.width self.now.codes.now result }
         ensures size { SizeY (K.arithmetic kind.now) self.now.width self.now.codes.now result }
     {
-        let mut largest = 0usize;
-        // Rows by number: chunks of width 0 are refused.
-        for i in 0..16 {
-            largest = largest.max(size(kind, self.row(i)));
-        }
-        largest
+        self.sizes(kind).iter().copied().max().unwrap_or(0)
     }
 }

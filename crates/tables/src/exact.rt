@@ -33,14 +33,8 @@ impl<K: Coefficients> Divisor<'_, K> {
         multiply_rows(self.kind, &self.rows, factor, product)?;
         let start = row_start(self.rows.width, shift);
         let last = row_start(self.rows.width, self.count - 1);
-        lessen(
-            self.kind,
-            rest,
-            start,
-            self.kind.one(),
-            product,
-            last + self.rows.width,
-        );
+        let end = last + self.rows.width;
+        lessen(self.kind, rest, start, self.kind.one(), &product[..end]);
         Ok(())
     }
 

@@ -66,7 +66,7 @@ fn correct_row<K: Coefficients>(
     ensures { Corrects (K.arithmetic kind.now) master.now point inverse value row.old row.new }
 {
     let excess = kind.sub(horner(kind, row, point), value);
-    lessen(kind, row, 0, kind.mul(excess, inverse), master, 32);
+    lessen(kind, row, 0, kind.mul(excess, inverse), master);
 }
 
 // Multiplies `master` by y - `point`.

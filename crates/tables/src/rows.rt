@@ -1,5 +1,6 @@
 // 16 rows of `width` codes that stand one after the other: the i-th has the coefficients of x^i.
-ghost use Rattle.std.specs.Prelude.{◌≡◌, ◌+◌, ◌*◌, ◌<◌, ◌≤◌, length};
+ghost use Rattle.std.specs.Prelude.{◌≡◌, ℕ, List, slice_index_or, ◌+◌, ◌*◌, ◌<◌, ◌≤◌, length};
+ghost use Rattle.std.specs.Borrow.{Bor};
 ghost use Rattle.polynomials.specs.Rows.{cut_row};
 
 // A view of the rows of a polynomial in x and y.
@@ -39,5 +40,13 @@ impl<'a> Rows<'a> {
     {
         let start = row_start(self.width, i);
         &self.codes[start..start + self.width]
+    }
+
+    // The rows in order.
+    pub fn each(&self) -> [&'a [u64]; 16]
+        ensures codes { (i : ℕ) (d : Bor (List ℕ)) → i < 16 → (slice_index_or result i d).now ≡ cut_row self.now.width self.now.codes.now i }
+        ensures width { (i : ℕ) (d : Bor (List ℕ)) → i < 16 → length (slice_index_or result i d).now ≡ self.now.width }
+    {
+        std::array::from_fn(|i| self.row(i))
     }
 }

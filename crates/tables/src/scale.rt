@@ -4,9 +4,9 @@ ghost use Rattle.tables.specs.Scale.{ManyTimes, MonicRows};
 
 use crate::rows::{Rows, row_start};
 use coefficients::kind::{Coefficients, ReciprocalFault};
-use polynomials::divide::lead_inverse;
+use polynomials::divide::Divisor;
 use polynomials::product::{NoRoom, multiply_row};
-use polynomials::rows::{clear, scale, size};
+use polynomials::rows::{clear, scale};
 
 // Writes each row times `by` into `product`, if there is room for all of them.
 pub fn multiply_rows<K: Coefficients>(
@@ -19,11 +19,11 @@ pub fn multiply_rows<K: Coefficients>(
     ensures { ManyTimes (K.arithmetic kind.now) rows.now.width rows.now.codes.now by.now product.new result }
 {
     clear(kind, product);
-    // Rows by number: chunks of width 0 are refused, and after a loop over `chunks_exact_mut` a proof knows nothing of what was written.
-    for i in 0..16 {
+    // The product's rows by number: chunks of width 0 are refused.
+    for (i, row) in rows.each().iter().enumerate() {
         let start = row_start(rows.width, i);
         let end = start + rows.width;
-        multiply_row(kind, by, rows.row(i), &mut product[start..end])?;
+        multiply_row(kind, by, row, &mut product[start..end])?;
     }
     Ok(())
 }
@@ -45,7 +45,7 @@ pub fn make_monic_rows<K: Coefficients>(
         return Ok(0);
     }
     let lead = view.row(n - 1);
-    let inverse = lead_inverse(kind, lead, size(kind, lead))?;
+    let inverse = Divisor::new(kind, lead)?.inverse();
     scale(kind, rows, inverse);
     Ok(n)
 }

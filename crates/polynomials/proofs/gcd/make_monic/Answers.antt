@@ -13,8 +13,8 @@ returns g c h =
     let lw = g.met.K.Coefficients.laws c.args.kind.now in
     let row = c.args.row.now in
     let n = c.size-n.result in
-    let i = c.in_ok-inverse.inverse in
-    let iv = c.in_ok-inverse.ensures in
+    let i = c.inverse-inverse.result in
+    let iv = (rw (c.in_ok-new.ensures.kind, c.in_ok-new.ensures.row) at c.inverse-inverse.ensures) n c.size-n.ensures in
     let len : length c.scale.new.row ≡ length row = omega arith in (
       scaled_inside lw row c.scale.new.row n i h c.size-n.ensures iv len c.scale.ensures,
       scaled_sized lw row c.scale.new.row n i h c.size-n.ensures iv len c.scale.ensures,

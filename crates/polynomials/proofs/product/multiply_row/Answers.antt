@@ -1,5 +1,6 @@
 use Rattle.std.proofs.Common.{◌≡◌, ℕ, ◌<◌, ap₂, ◌∙◌, subst, arith, length-take, get_or-take}
 use Rattle.polynomials.specs.Rows.{Sized}
+use Rattle.polynomials.proofs.Meaning.{lessened_take}
 use Rattle.polynomials.proofs.Products.{multiplying_none, multiplying_more, multiplied, multiplied_zero}
 use Rattle.polynomials.proofs.product.multiply_row.Goals as goal
 
@@ -23,7 +24,7 @@ loop-i-preserved g c =
     let below : i < n = omega arith in
     let room = c.if-not-has_room.ensures (omega arith) (omega arith) in
     multiplying_more K (g.met.K.Coefficients.laws c.args.kind.now) a c.args.b.now c.loop-i.product c.lessen.new.acc i c.size-count.result c.sub-negative.result
-    (omega arith) (omega arith) (omega arith) c.size-count.ensures (c.sub-negative.ensures ∙ ap₂ K.difference c.zero.ensures (get_or-take n a i 0 below)) c.lessen.ensures c.loop-i.invariant
+    (omega arith) (omega arith) (omega arith) c.size-count.ensures (c.sub-negative.ensures ∙ ap₂ K.difference c.zero.ensures (get_or-take n a i 0 below)) (lessened_take _ _ _ _ _ _ c.size-count.ensures.within c.lessen.ensures) c.loop-i.invariant
 
 pub returns : goal.returns
 returns g c =
