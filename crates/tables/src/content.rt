@@ -20,6 +20,7 @@ fn gather_row<K: Coefficients>(
     requires content { length content.old ≡ length row.now }
     ensures { (e : List ℕ) × Common (K.arithmetic kind.now) content.old row.now content.new e result }
 {
+    // No call allocates, so the room is an array.
     let mut room = [0u64; 32];
     let rest = &mut room[..row.len()];
     rest.copy_from_slice(row);
@@ -37,6 +38,7 @@ pub fn divide_even<K: Coefficients>(
     requires quotient { length quotient.old ≡ length row.now }
     ensures { Even (K.arithmetic kind.now) row.now by.now quotient.old quotient.new result }
 {
+    // No call allocates, so the room is an array.
     let mut room = [0u64; 32];
     let rest = &mut room[..row.len()];
     rest.copy_from_slice(row);

@@ -28,6 +28,7 @@ impl<K: Coefficients> Divisor<'_, K> {
         requires within { shift + self.now.count ≤ 16 }
         ensures { Taking (K.arithmetic self.now.kind.now) self.now.rows.width rest.old self.now.rows.codes.now shift factor.now rest.new result }
     {
+        // No call allocates, so the room is an array.
         let mut room = [0u64; 512];
         let product = &mut room[..self.rows.codes.len()];
         multiply_rows(self.kind, &self.rows, factor, product)?;

@@ -14,6 +14,7 @@ pub enum DivisionFault {
     Uneven,
 }
 
+// An error of each crate takes up a reciprocal's by an impl of its own.
 impl From<ReciprocalFault> for DivisionFault {
     ghost from_gives = { λ e r. r ≡ Reciprocal e };
 

@@ -29,6 +29,7 @@ pub fn lead_gcd<K: Coefficients>(
     ensures { SharedLeads (K.arithmetic kind.now) a.now.width a.now.codes.now b.now.codes.now shared.new result }
 {
     a.lead_row(kind, shared);
+    // No call allocates, so the room is an array.
     let mut room = [0u64; 32];
     let other = &mut room[..b.width];
     b.lead_row(kind, other);
