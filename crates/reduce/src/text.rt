@@ -1,4 +1,6 @@
 // Polynomials and refusals as people read them.
+ghost use Rattle.std.specs.Iterator.{IsFinite};
+
 use coefficients::kind::ReciprocalFault;
 use polynomials::faults::RowFault;
 use std::fmt;
@@ -80,6 +82,40 @@ fn terms(codes: &[u64]) -> usize {
     codes.iter().filter(|code| **code != 0).count()
 }
 
+// A sum of terms, or 0 where there is none.
+fn write_sum<W: fmt::Write, T: fmt::Display + Drop, I: Iterator<Item = T> + Drop>(
+    f: &mut fmt::Formatter<W>,
+    mut terms: I,
+) -> fmt::Result
+    requires can { I.can_next terms }
+    requires ends { IsFinite (I.remaining terms) }
+{
+    let Some(first) = terms.next() else {
+        return f.write_str("0");
+    };
+    write!(f, "{first}")?;
+    for term in terms {
+        write!(f, " + {term}")?;
+    }
+    Ok(())
+}
+
+// A coefficient with its power; it is left out where it is one, but for the constant.
+#[derive(Clone, Copy)]
+struct Term {
+    coefficient: Code,
+    power: Power,
+}
+
+impl fmt::Display for Term {
+    fn fmt<W: fmt::Write>(&self, f: &mut fmt::Formatter<W>) -> fmt::Result {
+        if self.coefficient.code != 1 || self.power.exponent == 0 {
+            write!(f, "{}", self.coefficient)?;
+        }
+        write!(f, "{}", self.power)
+    }
+}
+
 // A polynomial in one unknown, from the highest power down.
 #[derive(Clone, Copy)]
 pub struct Row<'a> {
@@ -88,43 +124,51 @@ pub struct Row<'a> {
     notation: Notation,
 }
 
-impl Row<'_> {
-    // A coefficient with its power; it is left out where it is one, but for the constant.
-    fn write_term<W: fmt::Write>(
-        &self,
-        f: &mut fmt::Formatter<W>,
-        code: u64,
-        exponent: usize,
-    ) -> fmt::Result {
-        let power = Power {
-            unknown: self.unknown,
-            exponent,
-        };
-        if code != 1 || exponent == 0 {
-            write!(f, "{}", self.notation.code(code))?;
-        }
-        write!(f, "{power}")
-    }
-}
-
 impl fmt::Display for Row<'_> {
     fn fmt<W: fmt::Write>(&self, f: &mut fmt::Formatter<W>) -> fmt::Result {
-        let shown = self
+        let row = *self;
+        let shown = row
             .codes
             .iter()
             .enumerate()
             .rev()
             .filter(|(_, code)| **code != 0);
-        for (n, (exponent, code)) in shown.enumerate() {
-            if n > 0 {
-                f.write_str(" + ")?;
-            }
-            self.write_term(f, *code, exponent)?;
+        write_sum(
+            f,
+            shown.map(|(exponent, code)| Term {
+                coefficient: row.notation.code(*code),
+                power: Power {
+                    unknown: row.unknown,
+                    exponent,
+                },
+            }),
+        )
+    }
+}
+
+// The coefficient of a power of x: in parentheses where it has several terms, and left out where it is one.
+#[derive(Clone, Copy)]
+struct Coefficient<'a> {
+    row: Row<'a>,
+    exponent: usize,
+}
+
+impl fmt::Display for Coefficient<'_> {
+    fn fmt<W: fmt::Write>(&self, f: &mut fmt::Formatter<W>) -> fmt::Result {
+        let row = self.row;
+        let power = Power {
+            unknown: 'x',
+            exponent: self.exponent,
+        };
+        if self.exponent == 0 {
+            write!(f, "{row}")
+        } else if terms(row.codes) > 1 {
+            write!(f, "({row}){power}")
+        } else if row.codes.first() == Some(&1) {
+            write!(f, "{power}")
+        } else {
+            write!(f, "{row}{power}")
         }
-        if terms(self.codes) == 0 {
-            f.write_str("0")?;
-        }
-        Ok(())
     }
 }
 
@@ -135,49 +179,22 @@ pub struct Table<'a> {
     notation: Notation,
 }
 
-impl Table<'_> {
-    // The coefficient of a power of x: in parentheses where it has several terms, and left out where it is one.
-    fn write_term<W: fmt::Write>(
-        &self,
-        f: &mut fmt::Formatter<W>,
-        row: &[u64],
-        exponent: usize,
-    ) -> fmt::Result {
-        let inner = self.notation.row(row, 'y');
-        let power = Power {
-            unknown: 'x',
-            exponent,
-        };
-        if exponent == 0 {
-            write!(f, "{inner}")
-        } else if terms(row) > 1 {
-            write!(f, "({inner}){power}")
-        } else if row.first() == Some(&1) {
-            write!(f, "{power}")
-        } else {
-            write!(f, "{inner}{power}")
-        }
-    }
-}
-
 impl fmt::Display for Table<'_> {
     fn fmt<W: fmt::Write>(&self, f: &mut fmt::Formatter<W>) -> fmt::Result {
-        let rows = self
+        let table = *self;
+        let shown = table
             .codes
             .chunks(16)
             .enumerate()
             .rev()
             .filter(|(_, row)| terms(row) > 0);
-        for (n, (exponent, row)) in rows.enumerate() {
-            if n > 0 {
-                f.write_str(" + ")?;
-            }
-            self.write_term(f, row, exponent)?;
-        }
-        if terms(self.codes) == 0 {
-            f.write_str("0")?;
-        }
-        Ok(())
+        write_sum(
+            f,
+            shown.map(|(exponent, row)| Coefficient {
+                row: table.notation.row(row, 'y'),
+                exponent,
+            }),
+        )
     }
 }
 
