@@ -5,6 +5,8 @@ use Rattle.rules.specs.declared.refusal.Table.{Table}
 use Rattle.rules.specs.declared.refusal.Table.TheVariants.{A, B, Divisor, CofactorA, CofactorB}
 use Rattle.rules.specs.declared.refusal.Stage.{Stage}
 use Rattle.rules.specs.declared.refusal.Stage.TheVariants.{Alone, Opening, Offer}
+use Rattle.rules.specs.declared.refusal.Fields.{Fields}
+use Rattle.rules.specs.declared.refusal.Fields.TheVariants.{Nothing, One, Two, Three, Counts as CountsOf}
 use Rattle.rules.specs.declared.refusal.Refusal.{Refusal}
 use Rattle.rules.specs.declared.refusal.Refusal.TheVariants.{Length, ForeignCode, ForeignPoint, Zero, Modulus, NoField, Repeated, Vanishing, High, Settled, Full, Spent, Empty, Short}
 
@@ -62,3 +64,11 @@ fields (Full counts) = count_list counts
 fields (Spent counts) = count_list counts
 fields (Empty counts) = count_list counts
 fields (Short counts) = count_list counts
+
+-- the numbers of such a list, in order
+abbrev pub named : Fields → List ℕ
+named Nothing = []
+named (One numbers) = numbers
+named (Two numbers) = numbers
+named (Three numbers) = numbers
+named (CountsOf numbers) = numbers

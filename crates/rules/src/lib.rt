@@ -38,6 +38,6 @@ mod tests {
             point: 7,
             degree: 3,
         };
-        assert_eq!(rt; high.fields()[1], 3);
+        assert_eq!(rt; high.fields().as_slice()[1], 3);
     }
 }

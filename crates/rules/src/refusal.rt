@@ -1,9 +1,8 @@
 // Why a call is refused.
-ghost use Rattle.std.specs.Prelude.{◌≡◌, ◌≤◌, length};
-ghost use Rattle.rules.specs.Numbers.{number, table_number, stage_number, fields};
+ghost use Rattle.std.specs.Prelude.{◌≡◌};
+ghost use Rattle.rules.specs.Numbers.{number, table_number, stage_number, fields, named};
 
 use crate::counts::Counts;
-use arrayvec::ArrayVec;
 
 // The tables of a job: the two that come in, their greatest common divisor and the two cofactors.
 #[derive(Clone, Copy, Debug, PartialEq, Eq)]
@@ -81,7 +80,28 @@ pub enum Refusal {
 }
 
 // The numbers that a refusal names.
-pub type Fields = ArrayVec<u64, 8>;
+#[derive(Clone, Copy, Debug, PartialEq, Eq)]
+pub enum Fields {
+    Nothing,
+    One([u64; 1]),
+    Two([u64; 2]),
+    Three([u64; 3]),
+    Counts([u64; 8]),
+}
+
+impl Fields {
+    pub fn as_slice(&self) -> &[u64]
+        ensures { result.now ≡ named self.now }
+    {
+        match self {
+            Fields::Nothing => &[],
+            Fields::One(numbers) => numbers,
+            Fields::Two(numbers) => numbers,
+            Fields::Three(numbers) => numbers,
+            Fields::Counts(numbers) => numbers,
+        }
+    }
+}
 
 // The number of a table.
 impl From<Table> for u64 {
@@ -99,18 +119,6 @@ impl From<Stage> for u64 {
     fn from(stage: Stage) -> u64 {
         stage as u64
     }
-}
-
-// These numbers, and no others.
-fn naming(numbers: &[u64]) -> Fields
-    requires { length numbers.now ≤ 8 }
-    ensures { result.items ≡ numbers.now }
-{
-    let mut named = ArrayVec::new();
-    for n in numbers {
-        named.push(*n);
-    }
-    named
 }
 
 impl Refusal {
@@ -137,25 +145,25 @@ impl Refusal {
 
     // What this refusal names, in the order in which it is shown.
     pub fn fields(&self) -> Fields
-        ensures { result.items ≡ fields self.now }
+        ensures { named result ≡ fields self.now }
     {
         match *self {
-            Refusal::Length { table, length } => naming(&[table.into(), length as u64]),
+            Refusal::Length { table, length } => Fields::Two([table.into(), length as u64]),
             Refusal::ForeignCode { table, place, code } => {
-                naming(&[table.into(), place as u64, code])
+                Fields::Three([table.into(), place as u64, code])
             }
-            Refusal::ForeignPoint { point } => naming(&[0, 0, point]),
-            Refusal::Zero { table } => naming(&[table.into()]),
-            Refusal::Modulus { .. } => naming(&[]),
-            Refusal::NoField { element, stage } => naming(&[element, stage.into()]),
+            Refusal::ForeignPoint { point } => Fields::Three([0, 0, point]),
+            Refusal::Zero { table } => Fields::One([table.into()]),
+            Refusal::Modulus { .. } => Fields::Nothing,
+            Refusal::NoField { element, stage } => Fields::Two([element, stage.into()]),
             Refusal::Repeated { point }
             | Refusal::Vanishing { point }
-            | Refusal::Settled { point } => naming(&[point]),
-            Refusal::High { point, degree } => naming(&[point, degree]),
+            | Refusal::Settled { point } => Fields::One([point]),
+            Refusal::High { point, degree } => Fields::Two([point, degree]),
             Refusal::Full(counts)
             | Refusal::Spent(counts)
             | Refusal::Empty(counts)
-            | Refusal::Short(counts) => naming(&<[u64; 8]>::from(counts)),
+            | Refusal::Short(counts) => Fields::Counts(counts.into()),
         }
     }
 }
