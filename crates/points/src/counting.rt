@@ -1,5 +1,5 @@
 // All elements of a listed kind, in their order.
-ghost use Rattle.std.specs.Prelude.{◌≡◌, ◌≤◌};
+ghost use Rattle.std.specs.Prelude.{◌≡◌, min};
 ghost use Rattle.points.specs.Waiting.{counting_from, InPlaces};
 
 use crate::source::Source;
@@ -8,10 +8,9 @@ use std::ops::Range;
 
 // The places that are left.
 #[derive(Drop)]
-pub struct Counting<K: Listed> {
+pub struct Counting<K> {
     kind: K,
     places: Range<u64>,
-    ghost within: { places.end ≤ K.Listed.count kind },
 }
 
 impl<K: Listed> Counting<K> {
@@ -25,7 +24,7 @@ impl<K: Listed> Counting<K> {
 }
 
 impl<K: Listed> Source for Counting<K> {
-    ghost waiting = { λ s. counting_from (K.Listed.nth s.kind) s.places.end s.places.start };
+    ghost waiting = { λ s. counting_from (K.Listed.nth s.kind) (min s.places.end (K.Listed.count s.kind)) s.places.start };
 
     fn draw(&mut self) -> Option<u64> {
         let place = self.places.next()?;
@@ -33,6 +32,6 @@ impl<K: Listed> Source for Counting<K> {
     }
 
     fn any_waiting(&self) -> bool {
-        !self.places.is_empty()
+        self.places.start < self.places.end.min(self.kind.count())
     }
 }

@@ -34,8 +34,8 @@ pub fn divide<K: Coefficients>(
 pub struct Divisor<'a, K: Coefficients> {
     pub kind: &'a K,
     pub row: &'a [u64],
-    count: usize,
-    inverse: u64,
+    pub count: usize,
+    pub inverse: u64,
     ghost sized: { Sized (K.arithmetic kind.now) row.now count },
     ghost inverts: { Inverts (K.arithmetic kind.now) row.now count inverse },
 }

@@ -37,6 +37,6 @@ impl Job {
     pub(crate) fn is_full(&self) -> bool
         ensures { IsTrue result ↔ (limit ≤ self.now.counts.offered) }
     {
-        self.counts.offered >= LIMIT
+        LIMIT <= self.counts.offered
     }
 }
