@@ -82,7 +82,7 @@ pub fn divide_table<K: Coefficients>(
         rows: *by,
         count,
     };
-    for shift in (0..=16 - count).rev() {
+    for shift in (0..17 - count).rev() {
         divisor.cut_top(rest, shift, quotient)?;
     }
     if Rows::new(rest, by.width).size_x(kind) == 0 {
