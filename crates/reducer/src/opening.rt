@@ -11,7 +11,7 @@ use crate::faults::named_element;
 use crate::job::Job;
 use crate::standing::Standing;
 use coefficients::kind::Coefficients;
-use polynomials::rows::size;
+use polynomials::rows::{first_foreign, size};
 use rules::counts::Counts;
 use rules::refusal::{Refusal, Stage, Table};
 use steps::answer::Reduction;
@@ -32,13 +32,9 @@ pub fn check_length(table: Table, codes: &[u64]) -> Result<(), Refusal>
 fn check_elements<K: Coefficients>(kind: &K, table: Table, codes: &[u64]) -> Result<(), Refusal>
     ensures { AllElements (K.arithmetic kind.now) table codes.now result }
 {
-    match codes.iter().position(|code| !kind.contains(*code)) {
+    match first_foreign(kind, codes) {
+        Some((place, code)) => Err(Refusal::ForeignCode { table, place, code }),
         None => Ok(()),
-        Some(place) => Err(Refusal::ForeignCode {
-            table,
-            place,
-            code: codes[place],
-        }),
     }
 }
 
