@@ -1,21 +1,25 @@
 // Steps on rows of codes.
-ghost use Rattle.std.specs.Prelude.{◌≡◌, ℕ, ◌+◌, ◌<◌, ◌≤◌, length, MatchResult, slice_index};
-ghost use Rattle.polynomials.specs.Rows.{Inside, Sized};
+ghost use Rattle.std.specs.Prelude.{◌≡◌, ℕ, ◌+◌, ◌<◌, ◌≤◌, length, MatchOption, MatchResult, slice_index};
+ghost use Rattle.polynomials.specs.Rows.{Inside, FirstForeign, Sized};
 ghost use Rattle.polynomials.specs.Steps.{ForeignRow, Lessened};
 
 use crate::faults::RowFault;
 use coefficients::kind::Coefficients;
 
+// The place and the code of the first that is no element.
+pub fn first_foreign<K: Coefficients>(kind: &K, codes: &[u64]) -> Option<(usize, u64)>
+    ensures { MatchOption result (Inside (K.arithmetic kind.now) codes.now) (λ p. FirstForeign (K.arithmetic kind.now) codes.now p.0 p.1) }
+{
+    let place = codes.iter().position(|code| !kind.contains(*code))?;
+    Some((place, codes[place]))
+}
+
 // Whether every code of a row is an element: the first that is not is refused, under the row's number.
 pub fn check_codes<K: Coefficients>(kind: &K, codes: &[u64], row: u64) -> Result<(), RowFault>
     ensures { MatchResult result (λ _. Inside (K.arithmetic kind.now) codes.now) (λ e. ForeignRow (K.arithmetic kind.now) codes.now row e) }
 {
-    match codes.iter().position(|code| !kind.contains(*code)) {
-        Some(place) => Err(RowFault::Foreign {
-            row,
-            place,
-            code: codes[place],
-        }),
+    match first_foreign(kind, codes) {
+        Some((place, code)) => Err(RowFault::Foreign { row, place, code }),
         None => Ok(()),
     }
 }

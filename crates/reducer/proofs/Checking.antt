@@ -65,10 +65,10 @@ module _ (K : Arithmetic) (a b : List ℕ) where
             some_B r (e, s) = refuses e (refuses_zero_B K a b a_long b_long a_inside b_inside m of_A.0 of_A.1 s) (λ only h. omega arith)
 
             module _ (n : ℕ) (of_B : SomeCode K B b (Ok n)) where
-              pub lead_A : (r : Refusal) → Leads K a m (Err r) → Checked K a b (Err r)
+              pub lead_A : (r : Refusal) → Leads K (get_or a (m - 1) 0) (Err r) → Checked K a b (Err r)
               lead_A r (e, not) = refuses e (refuses_lead_A K a b a_long b_long a_inside b_inside m of_A.0 of_A.1 n of_B.0 of_B.1 not) (λ only h. leads_over_field a m a_inside of_A.0 of_A.1 not only)
 
-              pub lead_B : Laws K → Leads K a m (Ok tt) → (answer : Result (Unit {0}) Refusal) → Leads K b n answer → Checked K a b answer
+              pub lead_B : Laws K → Leads K (get_or a (m - 1) 0) (Ok tt) → (answer : Result (Unit {0}) Refusal) → Leads K (get_or b (n - 1) 0) answer → Checked K a b answer
               lead_B laws (r, is) (Ok u) (q, es) = opens K a b a_long b_long a_inside b_inside m of_A.0 of_A.1 n of_B.0 of_B.1 laws r is q es
               lead_B laws (r, is) (Err x) (e, not) = refuses e (refuses_lead_B K a b a_long b_long a_inside b_inside m of_A.0 of_A.1 n of_B.0 of_B.1 laws r is not) (λ only h. leads_over_field b n b_inside of_B.0 of_B.1 not only)
 

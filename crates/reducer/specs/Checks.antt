@@ -1,5 +1,5 @@
 -- What the checks of an opening answer, and what the job is that comes of them.
-use Rattle.std.specs.Prelude.{◌≡◌, ℕ, ◌-◌, ◌<◌, List, length, Some, None, Ok, Err, Result, ◌≢◌, slice_index}
+use Rattle.std.specs.Prelude.{◌≡◌, ℕ, ◌<◌, List, length, Some, None, Ok, Err, Result, ◌≢◌}
 use Rattle.coefficients.specs.Arithmetic.{Arithmetic, IsField}
 use Rattle.polynomials.specs.Rows.{Inside, FirstForeign, Sized}
 use Rattle.rules.specs.declared.refusal.Table.{Table}
@@ -30,10 +30,10 @@ abbrev pub SomeCode : Arithmetic → Table → List ℕ → Result ℕ Refusal �
 SomeCode K name t (Ok n) = Sized K t n × (0 < n)
 SomeCode K name t (Err r) = (r ≡ Zero name) × Sized K t 0
 
--- `check_lead`: the code before the place n has a reciprocal, or is an element that has none
-abbrev pub Leads : Arithmetic → List ℕ → ℕ → Result (Unit {0}) Refusal → Type 0
-Leads K t n (Ok u) = (r : ℕ) × (K.product (slice_index t (n - 1)) r ≡ K.one)
-Leads K t n (Err r) = (r ≡ NoField (slice_index t (n - 1)) Opening) × ((q : ℕ) → K.product (slice_index t (n - 1)) q ≢ K.one)
+-- `check_lead`: the element e has a reciprocal, or the refusal names it, and it has none
+abbrev pub Leads : Arithmetic → (e : ℕ) → Result (Unit {0}) Refusal → Type 0
+Leads K e (Ok u) = (r : ℕ) × (K.product e r ≡ K.one)
+Leads K e (Err r) = (r ≡ NoField e Opening) × ((q : ℕ) → K.product e q ≢ K.one)
 
 -- `check`: the rule's refusal, or that the opening is not refused; over a field no element lacks a reciprocal
 abbrev pub Checked : Arithmetic → (a b : List ℕ) → Result (Unit {0}) Refusal → Type 0

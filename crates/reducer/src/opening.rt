@@ -1,6 +1,5 @@
 // Opening a job: the checks in their order, and the job that comes of them.
-ghost use Rattle.std.specs.Prelude.{◌<◌, ◌≤◌};
-ghost use Rattle.polynomials.specs.Rows.{Inside, Sized};
+ghost use Rattle.std.specs.Prelude.{◌≡◌, ◌≤◌, true};
 ghost use Rattle.reducer.specs.Room.{wanted};
 ghost use Rattle.reducer.specs.State.{state_of};
 ghost use Rattle.reducer.specs.Checks.{Long, AllElements, SomeCode, Leads, Checked, Begun, Voided};
@@ -11,7 +10,7 @@ use crate::faults::named_element;
 use crate::job::Job;
 use crate::standing::Standing;
 use coefficients::kind::Coefficients;
-use polynomials::rows::size;
+use polynomials::rows::{first_foreign, size};
 use rules::counts::Counts;
 use rules::refusal::{Refusal, Stage, Table};
 use steps::answer::Reduction;
@@ -32,13 +31,9 @@ pub fn check_length(table: Table, codes: &[u64]) -> Result<(), Refusal>
 fn check_elements<K: Coefficients>(kind: &K, table: Table, codes: &[u64]) -> Result<(), Refusal>
     ensures { AllElements (K.arithmetic kind.now) table codes.now result }
 {
-    match codes.iter().position(|code| !kind.contains(*code)) {
+    match first_foreign(kind, codes) {
+        Some((place, code)) => Err(Refusal::ForeignCode { table, place, code }),
         None => Ok(()),
-        Some(place) => Err(Refusal::ForeignCode {
-            table,
-            place,
-            code: codes[place],
-        }),
     }
 }
 
@@ -52,14 +47,11 @@ fn check_some<K: Coefficients>(kind: &K, table: Table, codes: &[u64]) -> Result<
     }
 }
 
-// The coefficient of the leading term has a reciprocal.
-fn check_lead<K: Coefficients>(kind: &K, codes: &[u64], count: usize) -> Result<(), Refusal>
-    requires some { 0 < count }
-    requires inside { Inside (K.arithmetic kind.now) codes.now }
-    requires sized { Sized (K.arithmetic kind.now) codes.now count }
-    ensures { Leads (K.arithmetic kind.now) codes.now count result }
+// The coefficient of a leading term has a reciprocal.
+fn check_lead<K: Coefficients>(kind: &K, element: u64) -> Result<(), Refusal>
+    requires { (K.arithmetic kind.now).element element ≡ true }
+    ensures { Leads (K.arithmetic kind.now) element result }
 {
-    let element = codes[count - 1];
     kind.reciprocal(element).map_err(|_| Refusal::NoField {
         element,
         stage: Stage::Opening,
@@ -77,8 +69,8 @@ fn check<K: Coefficients>(kind: &K, a: &[u64], b: &[u64]) -> Result<(), Refusal>
     check_elements(kind, Table::B, b)?;
     let left = check_some(kind, Table::A, a)?;
     let right = check_some(kind, Table::B, b)?;
-    check_lead(kind, a, left)?;
-    check_lead(kind, b, right)
+    check_lead(kind, a[left - 1])?;
+    check_lead(kind, b[right - 1])
 }
 
 // A job that begins.
