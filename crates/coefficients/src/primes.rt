@@ -4,7 +4,7 @@ ghost use Rattle.coefficients.specs.Prime.{Prime, known_modulus};
 
 #[derive(Clone, Copy, Debug, PartialEq, Eq)]
 pub enum KnownPrime {
-    // The modulus of the program's example.
+    // The modulus of the program's first pair.
     Eleven,
     LargestModulus,
 }

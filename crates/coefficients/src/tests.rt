@@ -30,9 +30,7 @@ fn reciprocals_are_given_or_refused(rt: HostRuntime) -> Result<(), Fail> {
     assert_eq!(rt; answer(bytes.reciprocal(0x53)), Ok(0xca));
     assert_eq!(rt; answer(bytes.reciprocal(0)), Err(5));
     assert_eq!(rt; answer(bytes.reciprocal(256)), Err(2));
-    let Ok(fifteen) = Residues::new(15) else {
-        return Err(Fail::new("15 is refused"));
-    };
+    let fifteen = Residues::new(15)?;
     assert_eq!(rt; answer(fifteen.reciprocal(2)), Ok(8));
     assert_eq!(rt; answer(fifteen.reciprocal(5)), Err(5));
     assert_eq!(rt; answer(fifteen.reciprocal(15)), Err(2));

@@ -10,9 +10,7 @@ use std::test::Fail;
 
 #[test]
 fn a_pile_shifts_the_list_and_then_all_elements(rt: HostRuntime) -> Result<(), Fail> {
-    let Ok(k) = Residues::new(11) else {
-        return Err(Fail::new("11 is refused"));
-    };
+    let k = Residues::new(11)?;
     let mut pile = standard_pile(k, 3, &[8, 9, 20]);
     assert_eq!(rt; pile.draw(), Some(0));
     assert_eq!(rt; pile.draw(), Some(1));

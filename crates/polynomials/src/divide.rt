@@ -1,5 +1,5 @@
 // Division with remainder.
-ghost use Rattle.std.specs.Prelude.{◌≡◌, ℕ, ◌+◌, ◌-◌, ◌<◌, ◌≤◌, length, IfOk, IfErr, slice_index};
+ghost use Rattle.std.specs.Prelude.{◌≡◌, ℕ, ◌+◌, ◌-◌, ◌≤◌, length, IfOk, IfErr, slice_index};
 ghost use Rattle.polynomials.specs.Rows.{Sized};
 ghost use Rattle.polynomials.specs.Steps.{Lessened, Inverts, Undivided, Divided, Division, Reduced, Reduction};
 ghost use Rattle.polynomials.specs.Calls.{Dividing};

@@ -1,5 +1,5 @@
 // The value of a row at a point, and the image of a table where y is a point.
-ghost use Rattle.std.specs.Prelude.{◌≡◌, ℕ, length};
+ghost use Rattle.std.specs.Prelude.{◌≡◌, length};
 ghost use Rattle.polynomials.specs.Powers.{Powers};
 ghost use Rattle.polynomials.specs.Steps.{Valued, Imaged};
 ghost use Rattle.polynomials.specs.Calls.{Evaluation, Imaging};
@@ -70,6 +70,7 @@ pub fn image_row<K: Coefficients>(kind: &K, table: &[u64], point: u64, row: &mut
     requires row { length row.old ≡ 16 }
     ensures { Imaged (K.arithmetic kind.now) table.now point row.new }
 {
+    // Written by place: of what is written through an adapter of `iter_mut` a proof knows nothing.
     for (i, codes) in table.chunks_exact(16).enumerate() {
         row[i] = horner(kind, codes, point);
     }

@@ -1,5 +1,5 @@
 // The monic greatest common divisor, by Euclid's algorithm.
-ghost use Rattle.std.specs.Prelude.{◌≡◌, ℕ, length};
+ghost use Rattle.std.specs.Prelude.{◌≡◌, length};
 ghost use Rattle.polynomials.specs.Steps.{MadeMonic, Common};
 ghost use Rattle.polynomials.specs.Calls.{Sharing};
 

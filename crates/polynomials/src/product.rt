@@ -1,5 +1,4 @@
 // Products.
-ghost use Rattle.std.specs.Prelude.{◌≡◌};
 ghost use Rattle.polynomials.specs.Product.{FitsRoom, Multiplied};
 
 use crate::rows::{clear, lessen, size};

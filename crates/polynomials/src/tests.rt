@@ -7,9 +7,7 @@ use std::test::Fail;
 
 #[test]
 fn refusals_name_what_came_in(rt: HostRuntime) -> Result<(), Fail> {
-    let Ok(k) = Residues::new(11) else {
-        return Err(Fail::new("11 is refused"));
-    };
+    let k = Residues::new(11)?;
     assert_eq!(rt; evaluate(&k, &[1, 2, 3], 5), Ok(9));
     assert_eq!(rt;
         evaluate(&k, &[1, 11, 3], 5).map_err(|e| e.number()),

@@ -6,6 +6,7 @@ mod text;
 use anyhow::anyhow;
 use coefficients::bytes::Bytes;
 use coefficients::kind::Coefficients;
+use coefficients::primes::KnownPrime;
 use coefficients::residues::Residues;
 use points::pile::standard_pile;
 use points::source::Source;
@@ -65,39 +66,33 @@ fn byte_pair() -> Pair<Bytes> {
     }
 }
 
-// The images of a pair at a point, what they share, and what is left of each.
+// What two images share, by its codes and its degree.
 #[derive(Clone, Copy)]
-struct Images {
-    a: [u64; 16],
-    b: [u64; 16],
-    common: [u64; 16],
+struct Shared {
+    codes: [u64; 16],
     degree: usize,
-    left: [u64; 16],
-    right: [u64; 16],
 }
 
 impl<K: Coefficients> Pair<K> {
-    fn images(&self, point: u64) -> Result<Images, RowFault> {
-        let a = self.image(&self.a, point)?;
-        let b = self.image(&self.b, point)?;
-        let mut common = a;
-        let mut used = b;
-        let size = gcd(&self.kind, &mut common, &mut used)?;
-        Ok(Images {
-            a,
-            b,
-            common,
-            degree: size.saturating_sub(1),
-            left: self.cofactor(&a, &common)?,
-            right: self.cofactor(&b, &common)?,
-        })
-    }
-
     // A table where y is a point.
     fn image(&self, table: &[u64; 256], point: u64) -> Result<[u64; 16], RowFault> {
         let mut row = [0; 16];
         image(&self.kind, table, point, &mut row)?;
         Ok(row)
+    }
+
+    fn images(&self, point: u64) -> Result<([u64; 16], [u64; 16]), RowFault> {
+        Ok((self.image(&self.a, point)?, self.image(&self.b, point)?))
+    }
+
+    fn shared(&self, a: &[u64; 16], b: &[u64; 16]) -> Result<Shared, RowFault> {
+        let mut codes = *a;
+        let mut used = *b;
+        let size = gcd(&self.kind, &mut codes, &mut used)?;
+        Ok(Shared {
+            codes,
+            degree: size.saturating_sub(1),
+        })
     }
 
     // The other factor of an image.
@@ -114,22 +109,39 @@ impl<K: Coefficients + Copy> Pair<K> {
     fn print_point(&self, rt: &impl Print, point: u64) -> io::Result<()> {
         println!(rt; "y set to {}:", self.notation.code(point))?;
         match self.images(point) {
-            Ok(images) => self.print_images(rt, &images),
+            Ok((a, b)) => self.print_images(rt, &a, &b),
             Err(fault) => println!(rt; "  {}", self.notation.fault(fault)),
         }
     }
 
-    fn print_images(&self, rt: &impl Print, images: &Images) -> io::Result<()> {
-        let row = |codes| self.notation.row(codes, 'x');
-        println!(rt; "  A' becomes {}", row(&images.a))?;
-        println!(rt; "  B' becomes {}", row(&images.b))?;
-        println!(rt;
-            "  they share {}, of degree {}",
-            row(&images.common),
-            images.degree
-        )?;
-        println!(rt; "  what is left of A: {}", row(&images.left))?;
-        println!(rt; "  what is left of B: {}", row(&images.right))
+    fn print_images(&self, rt: &impl Print, a: &[u64; 16], b: &[u64; 16]) -> io::Result<()> {
+        println!(rt; "  A' becomes {}", self.notation.row(a, 'x'))?;
+        println!(rt; "  B' becomes {}", self.notation.row(b, 'x'))?;
+        match self.shared(a, b) {
+            Ok(Shared { codes, degree }) => {
+                let row = self.notation.row(&codes, 'x');
+                println!(rt; "  they share {row}, of degree {degree}")?;
+                self.print_cofactor(rt, 'A', a, &codes)?;
+                self.print_cofactor(rt, 'B', b, &codes)
+            }
+            Err(fault) => println!(rt; "  {}", self.notation.fault(fault)),
+        }
+    }
+
+    fn print_cofactor(
+        &self,
+        rt: &impl Print,
+        name: char,
+        row: &[u64; 16],
+        by: &[u64; 16],
+    ) -> io::Result<()> {
+        match self.cofactor(row, by) {
+            Ok(codes) => println!(rt;
+                "  what is left of {name}: {}",
+                self.notation.row(&codes, 'x')
+            ),
+            Err(fault) => println!(rt; "  {}", self.notation.fault(fault)),
+        }
     }
 
     // Prints γ: what the leading coefficients in x share.
@@ -188,7 +200,7 @@ impl<K: Coefficients + Copy> Pair<K> {
 }
 
 fn run(rt: &impl Print) -> anyhow::Result<()> {
-    let Ok(residues) = Residues::new(11) else {
+    let Ok(residues) = Residues::new(KnownPrime::Eleven.modulus()) else {
         return Err(anyhow!("11 is no modulus"));
     };
     println!(rt; "Residues modulo 11, and a pile of 10, 0, 5, 20 and all residues, shifted by 3.")?;

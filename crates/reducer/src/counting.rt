@@ -1,5 +1,5 @@
 // How an offer is counted.
-ghost use Rattle.std.specs.Prelude.{◌≡◌, ℕ, ◌+◌, ◌<◌, ◌≤◌};
+ghost use Rattle.std.specs.Prelude.{◌≡◌, ◌+◌, ◌<◌, ◌≤◌};
 ghost use Rattle.reducer.specs.Room.{classes};
 ghost use Rattle.reducer.specs.State.{tally_of, tallied};
 ghost use Rattle.rules.specs.Job.{limit};
@@ -7,7 +7,7 @@ ghost use Rattle.rules.specs.Offer.{raised};
 
 use rules::counts::Counts;
 
-// The classes in which an offer changes nothing but a count.
+// The classes in which an offer changes nothing but a count. A type and no closure that raises one: contracts cite the class by the rules.
 #[derive(Clone, Copy, Debug, PartialEq, Eq)]
 pub enum Tallied {
     Foreign,

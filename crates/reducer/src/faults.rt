@@ -5,7 +5,8 @@ ghost use Rattle.reducer.specs.Sound.{element_of};
 use coefficients::kind::ReciprocalFault;
 use tables::faults::DivisionFault;
 
-// The element that a fault names, and 0 where a division did not come out even. It is read, and not what the fault turns into: the caller has the stage.
+// The element that a fault names, and 0 where a division did not come out even.
+// A reading and no From: a refusal names a stage too, which the caller knows.
 pub fn named_element(fault: DivisionFault) -> u64
     ensures { result ≡ element_of fault }
 {

@@ -1,5 +1,5 @@
 // Writing the images at a held point.
-ghost use Rattle.std.specs.Prelude.{◌≡◌, ◌<◌};
+ghost use Rattle.std.specs.Prelude.{◌<◌};
 ghost use Rattle.reducer.specs.Held.{Placed, Written};
 
 use steps::factored::Factored;

@@ -1,4 +1,4 @@
-// The table of a job. What ties its codes to a kind stands in the promise of each call, and not here.
+// What a job stores. What ties its codes to a kind stands in the promise of each call and in no invariant, a rule of the project.
 ghost use Rattle.std.specs.Prelude.{◌≡◌, ◌≤◌, length};
 ghost use Rattle.rules.specs.Job.{limit};
 ghost use Rattle.reducer.specs.Room.{wanted, classes};
@@ -21,7 +21,8 @@ pub struct Job {
     pub(crate) level: usize,
     pub(crate) counts: Counts,
     pub(crate) workings: Workings,
-    // The held points in order, and the images at them, 16 codes for each: memory is fixed, so both stand here as arrays.
+    // The held points in order, and the images at them, 16 codes for each. No call allocates, so they are arrays with their number in the counts;
+    // joining reads the codes of each of the three images as one slice.
     pub(crate) points: [u64; 31],
     pub(crate) images: Factored<496>,
     // What is collected once the job is settled.

@@ -1,7 +1,7 @@
 // What an offer does to a job: first what the point is found to be, then what comes of it.
-// The kind is lent beside the job: a state copies it out before it lends the job to be changed.
-// Each step asks for room for one more offer in a clause: a type that lends the job with that fact would still owe it when the offer is counted.
-ghost use Rattle.std.specs.Prelude.{◌≡◌, ℕ, ◌+◌, ◌-◌, ◌<◌, ◌≤◌, List, if◌then◌else◌, nat_eq, nat_lt, slice_index};
+// The kind is lent beside the job, and no step has both in one type: a rule of the project, by which a state copies its kind out first.
+// Room for one more offer stands in a clause of each step. Tried as a ghost field of a type that lends the job: its proof did not close, since the field is owed until the type is taken apart, and counting the offer makes it false.
+ghost use Rattle.std.specs.Prelude.{◌≡◌, ◌+◌, ◌-◌, ◌<◌, ◌≤◌, if◌then◌else◌, nat_eq, nat_lt, slice_index};
 ghost use Rattle.rules.specs.Job.{limit, gathering, settled, void};
 ghost use Rattle.rules.specs.Offer.{too_high, counting};
 ghost use Rattle.rules.specs.declared.refusal.Refusal.TheVariants as Refused;

@@ -39,9 +39,7 @@ mod tests {
 
     #[test]
     fn rules_stand_modulo_11() -> Result<(), Fail> {
-        let Ok(eleven) = Residues::new(11) else {
-            return Err(Fail::new("11 is refused"));
-        };
+        let eleven = Residues::new(11)?;
         let table = [1u64; 256];
         pairs_stand(&eleven);
         openings_stand(&eleven, &table, &table);

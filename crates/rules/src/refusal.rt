@@ -47,7 +47,7 @@ pub enum Refusal {
     Modulus {
         modulus: u64,
     },
-    // An element that has no reciprocal, or 0 where a division that must come out even did not.
+    // An element that has no reciprocal, or 0 where a division that must come out even did not: the rules name the number 0 there.
     NoField {
         element: u64,
         stage: Stage,
@@ -65,7 +65,7 @@ pub enum Refusal {
         point: u64,
         degree: u64,
     },
-    // The job is settled already; a run names point 0.
+    // The job is settled already; a run names point 0, by the rules.
     Settled {
         point: u64,
     },

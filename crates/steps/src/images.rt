@@ -1,7 +1,7 @@
 // The images of two polynomials at points.
 ghost use Rattle.std.specs.Prelude.{◌≡◌, ◌*◌, ◌≤◌, length};
 
-// Points, and 16 codes of each image at every one of them.
+// Points, and 16 codes of each image at every one of them. The codes of one image lie together, since joining reads them as one slice.
 #[derive(Clone, Copy)]
 pub struct Images<'a> {
     pub points: &'a [u64],

@@ -1,5 +1,5 @@
 // What a job is opened with: contents, the tables without them, what their leading coefficients share, and the numbers that follow.
-ghost use Rattle.std.specs.Prelude.{◌≡◌, ℕ, pred, length};
+ghost use Rattle.std.specs.Prelude.{◌≡◌, pred, length};
 ghost use Rattle.steps.specs.Prepare.{Parting, Preparing};
 
 use coefficients::kind::Coefficients;

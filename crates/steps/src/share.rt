@@ -1,5 +1,4 @@
 // What two rows share, and what each has besides.
-ghost use Rattle.std.specs.Prelude.{◌≡◌, length};
 ghost use Rattle.steps.specs.Share.{Sharing};
 
 use crate::factored::Factored;

@@ -14,7 +14,7 @@ pub enum DivisionFault {
     Uneven,
 }
 
-// An error of each crate takes up a reciprocal's by an impl of its own.
+// Beside the one of the same shape in polynomials: an impl of From names one error.
 impl From<ReciprocalFault> for DivisionFault {
     ghost from_gives = { λ e r. r ≡ Reciprocal e };
 

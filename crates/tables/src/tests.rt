@@ -6,9 +6,7 @@ use std::test::Fail;
 // (y + 1) (x + 2) modulo 11.
 #[test]
 fn content_splits_off(rt: HostRuntime) -> Result<(), Fail> {
-    let Ok(k) = Residues::new(11) else {
-        return Err(Fail::new("11 is refused"));
-    };
+    let k = Residues::new(11)?;
     let mut rows = [0; 32];
     rows[0] = 2;
     rows[1] = 2;
@@ -19,10 +17,7 @@ fn content_splits_off(rt: HostRuntime) -> Result<(), Fail> {
     let whole = Rows::new(&rows, 2);
     assert_eq!(rt; whole.size_x(&k), 2);
     assert_eq!(rt; whole.size_y(&k), 2);
-    match whole.take_content(&k, &mut shared, &mut part) {
-        Ok(n) => assert_eq!(rt; n, 2),
-        Err(_) => return Err(Fail::new("a content is refused")),
-    }
+    assert_eq!(rt; whole.take_content(&k, &mut shared, &mut part)?, 2);
     assert_eq!(rt; shared[0], 1);
     assert_eq!(rt; shared[1], 1);
     assert_eq!(rt; part[0], 2);

@@ -31,9 +31,7 @@ mod tests {
 
     #[test]
     fn values_stand_modulo_11_and_over_bytes() -> Result<(), Fail> {
-        let Ok(eleven) = Residues::new(11) else {
-            return Err(Fail::new("11 is refused"));
-        };
+        let eleven = Residues::new(11)?;
         values_stand(&eleven);
         values_stand(&Bytes::new());
         examples_stand();

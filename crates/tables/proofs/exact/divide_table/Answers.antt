@@ -1,4 +1,4 @@
-use Rattle.std.proofs.Common.{arith}
+use Rattle.std.proofs.Common.{◌-◌, arith}
 use Rattle.std.proofs.lemmas.Result.{err_from_is_err_and}
 use Rattle.tables.proofs.LongDivision.{division_none, division_more, division_refused, division_even, division_uneven, division_by_zero}
 use Rattle.tables.proofs.exact.divide_table.Goals as goal
