@@ -66,6 +66,13 @@ fn byte_pair() -> Pair<Bytes> {
     }
 }
 
+// The images of both tables at a point.
+#[derive(Clone, Copy)]
+struct Images {
+    a: [u64; 16],
+    b: [u64; 16],
+}
+
 // What two images share, by its codes and its degree.
 #[derive(Clone, Copy)]
 struct Shared {
@@ -81,13 +88,15 @@ impl<K: Coefficients> Pair<K> {
         Ok(row)
     }
 
-    fn images(&self, point: u64) -> Result<([u64; 16], [u64; 16]), RowFault> {
-        Ok((self.image(&self.a, point)?, self.image(&self.b, point)?))
+    fn images(&self, point: u64) -> Result<Images, RowFault> {
+        let a = self.image(&self.a, point)?;
+        let b = self.image(&self.b, point)?;
+        Ok(Images { a, b })
     }
 
-    fn shared(&self, a: &[u64; 16], b: &[u64; 16]) -> Result<Shared, RowFault> {
-        let mut codes = *a;
-        let mut used = *b;
+    fn shared(&self, images: &Images) -> Result<Shared, RowFault> {
+        let mut codes = images.a;
+        let mut used = images.b;
         let size = gcd(&self.kind, &mut codes, &mut used)?;
         Ok(Shared {
             codes,
@@ -109,20 +118,23 @@ impl<K: Coefficients + Copy> Pair<K> {
     fn print_point(&self, rt: &impl Print, point: u64) -> io::Result<()> {
         println!(rt; "y set to {}:", self.notation.code(point))?;
         match self.images(point) {
-            Ok((a, b)) => self.print_images(rt, &a, &b),
+            Ok(images) => self.print_images(rt, &images),
             Err(fault) => println!(rt; "  {}", self.notation.fault(fault)),
         }
     }
 
-    fn print_images(&self, rt: &impl Print, a: &[u64; 16], b: &[u64; 16]) -> io::Result<()> {
-        println!(rt; "  A' becomes {}", self.notation.row(a, 'x'))?;
-        println!(rt; "  B' becomes {}", self.notation.row(b, 'x'))?;
-        match self.shared(a, b) {
-            Ok(Shared { codes, degree }) => {
-                let row = self.notation.row(&codes, 'x');
-                println!(rt; "  they share {row}, of degree {degree}")?;
-                self.print_cofactor(rt, 'A', a, &codes)?;
-                self.print_cofactor(rt, 'B', b, &codes)
+    fn print_images(&self, rt: &impl Print, images: &Images) -> io::Result<()> {
+        println!(rt; "  A' becomes {}", self.notation.row(&images.a, 'x'))?;
+        println!(rt; "  B' becomes {}", self.notation.row(&images.b, 'x'))?;
+        match self.shared(images) {
+            Ok(shared) => {
+                println!(rt;
+                    "  they share {}, of degree {}",
+                    self.notation.row(&shared.codes, 'x'),
+                    shared.degree
+                )?;
+                self.print_cofactor(rt, 'A', &images.a, &shared.codes)?;
+                self.print_cofactor(rt, 'B', &images.b, &shared.codes)
             }
             Err(fault) => println!(rt; "  {}", self.notation.fault(fault)),
         }
