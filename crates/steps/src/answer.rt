@@ -1,4 +1,6 @@
 // Reading off the greatest common divisor of two prepared tables, and both cofactors.
+ghost use Rattle.std.specs.Prelude.{◌≡◌, ℕ, List, length, MatchResult};
+ghost use Rattle.tables.specs.Content.{EvenRows};
 ghost use Rattle.steps.specs.Answer.{Narrowed, Enlarging, Finishing, Free, Closing};
 
 use crate::factored::Factored;
@@ -75,6 +77,20 @@ pub fn reduce_free<K: Coefficients>(
     finish(kind, workings, &parts)
 }
 
+// 16 rows of 32 codes, each divided by a polynomial in y, which must come out even.
+fn divided<K: Coefficients>(
+    kind: &K,
+    codes: &[u64; 512],
+    by: &[u64; 32],
+) -> Result<[u64; 512], DivisionFault>
+    ensures { MatchResult result (λ q. (length q ≡ 512) × EvenRows (K.arithmetic kind.now) 32 codes.now by.now q (Ok tt)) (λ e. (q : List ℕ) × EvenRows (K.arithmetic kind.now) 32 codes.now by.now q (Err e)) }
+{
+    let rows = Rows { codes, width: 32 };
+    let mut quotient = [0u64; 512];
+    divide_rows(kind, &rows, by, &mut quotient)?;
+    Ok(quotient)
+}
+
 // From what is joined at lucky points: the divisor without its content, and the cofactors without the leading coefficient of that.
 pub fn reduce_joined<K: Coefficients>(
     kind: &K,
@@ -96,18 +112,8 @@ pub fn reduce_joined<K: Coefficients>(
         width: 32,
     };
     rows.lead_row(kind, &mut lead);
-    let mut left = [0u64; 512];
-    let rows = Rows {
-        codes: &joined.left,
-        width: 32,
-    };
-    divide_rows(kind, &rows, &lead, &mut left)?;
-    let mut right = [0u64; 512];
-    let rows = Rows {
-        codes: &joined.right,
-        width: 32,
-    };
-    divide_rows(kind, &rows, &lead, &mut right)?;
+    let left = divided(kind, &joined.left, &lead)?;
+    let right = divided(kind, &joined.right, &lead)?;
     let parts = Factored {
         divisor: narrow(&part),
         left: narrow(&left),
