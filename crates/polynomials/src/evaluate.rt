@@ -64,13 +64,14 @@ pub fn fill_powers<K: Coefficients>(kind: &K, point: u64, powers: &mut [u64])
     }
 }
 
-// The image of a table, row by row.
+// The image of a table, row by row. Here and in the steps on tables lengths of slices stand in clauses: these are functions over slices of codes, a
+// form of the project (docs/DECISIONS.md, Forms).
 pub fn image_row<K: Coefficients>(kind: &K, table: &[u64], point: u64, row: &mut [u64])
     requires table { length table.now ≡ 256 }
     requires row { length row.old ≡ 16 }
     ensures { Imaged (K.arithmetic kind.now) table.now point row.new }
 {
-    // Written by place: of what is written through an adapter of `iter_mut` a proof knows nothing.
+    // Written by place: after a loop over a zipped or counted `iter_mut` a proof knows at most the length of what was written.
     for (i, codes) in table.chunks_exact(16).enumerate() {
         row[i] = horner(kind, codes, point);
     }

@@ -6,7 +6,8 @@ ghost use Rattle.polynomials.specs.declared.faults.RowFault.TheVariants.{Recipro
 use coefficients::kind::ReciprocalFault;
 use rules::refusal::Refusal;
 
-// `row` is the place of the argument, from 1, among those of the call that hold codes: it is counted along the call and shown, so first, second and third would be the same numbers, longer.
+// `row` is the place, from 1, among the arguments that hold codes. It is counted along the call and shown: first, second and third would be the same
+// numbers, longer.
 #[derive(Clone, Copy, Debug, PartialEq, Eq)]
 pub enum RowFault {
     // A row whose length does not fit.

@@ -46,7 +46,7 @@ pub fn lessen<K: Coefficients>(kind: &K, acc: &mut [u64], shift: usize, by: u64,
     requires { shift + length row.now ≤ length acc.old }
     ensures { Lessened (K.arithmetic kind.now) acc.old acc.new shift by row.now (length row.now) }
 {
-    // Written by place: of what is written through an adapter of `iter_mut` a proof knows nothing.
+    // Written by place: after a loop over a zipped or counted `iter_mut` a proof knows at most the length of what was written.
     for (j, code) in row.iter().enumerate() {
         acc[shift + j] = kind.sub(acc[shift + j], kind.mul(by, *code));
     }

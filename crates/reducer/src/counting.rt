@@ -7,7 +7,8 @@ ghost use Rattle.rules.specs.Offer.{raised};
 
 use rules::counts::Counts;
 
-// The classes in which an offer changes nothing but a count. A type and no closure that raises one: contracts cite the class by the rules.
+// The classes in which an offer changes nothing but a count. A type and no closure that raises a count: contracts
+// say by `tallied` what a class raises, and a closure has no name that they could cite.
 #[derive(Clone, Copy, Debug, PartialEq, Eq)]
 pub enum Tallied {
     Foreign,

@@ -6,7 +6,7 @@ use coefficients::kind::ReciprocalFault;
 use tables::faults::DivisionFault;
 
 // The element that a fault names, and 0 where a division did not come out even.
-// A reading and no From: a refusal names a stage too, which the caller knows.
+// Read off, and no From: a refusal names a stage too, which only the caller knows, and a number is not what a fault turns into.
 pub fn named_element(fault: DivisionFault) -> u64
     ensures { result ≡ element_of fault }
 {

@@ -1,4 +1,5 @@
-// What a job stores. What ties its codes to a kind stands in the promise of each call and in no invariant, a rule of the project.
+// What a job stores. What ties its codes to a kind stands in the promise of each call and in no invariant, a rule of the
+// project (docs/DECISIONS.md, Forms).
 ghost use Rattle.std.specs.Prelude.{◌≡◌, ◌≤◌, length};
 ghost use Rattle.rules.specs.Job.{limit};
 ghost use Rattle.reducer.specs.Room.{wanted, classes};

@@ -1,5 +1,6 @@
 // What an offer does to a job: first what the point is found to be, then what comes of it.
-// The kind is lent beside the job, and no step has both in one type: a rule of the project, by which a state copies its kind out first.
+// The kind is lent beside the job, and no step has both in one type: a rule of the project, by which a state copies its kind out first
+// (docs/DECISIONS.md, Forms).
 // Room for one more offer stands in a clause of each step. Tried as a ghost field of a type that lends the job: its proof did not close, since the field is owed until the type is taken apart, and counting the offer makes it false.
 ghost use Rattle.std.specs.Prelude.{◌≡◌, ◌+◌, ◌-◌, ◌<◌, ◌≤◌, if◌then◌else◌, nat_eq, nat_lt, slice_index};
 ghost use Rattle.rules.specs.Job.{limit, gathering, settled, void};

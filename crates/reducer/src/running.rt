@@ -26,8 +26,8 @@ fn cause_to_stop(job: &Job, drawn: u64, draws: u64) -> Option<Result<(), Refusal
     }
 }
 
-// Draws and offers until there is a cause to stop. The draws are counted by hand: after the last one a cause is looked for once more, where a
-// range of draws has ended.
+// Draws and offers until there is a cause to stop. A loop and no `for` over the draws: a cause is looked for before each draw and once more after
+// the last, when such a range has ended.
 fn draw_points<K: Coefficients, S: Source>(
     kind: &K,
     job: &mut Job,

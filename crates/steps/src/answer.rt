@@ -16,7 +16,8 @@ use tables::scale::multiply_rows;
 // The greatest common divisor of two tables, and its cofactors.
 pub type Reduction = Factored<256>;
 
-// The first 16 codes of each of 16 rows of 32. The places written go by number: of what is written through chunks a proof keeps the length only.
+// The first 16 codes of each of 16 rows of 32. Written by place: after a loop over
+// `chunks_exact_mut` a proof knows at most the length of what was written.
 fn narrow(rows: &[u64; 512]) -> [u64; 256]
     ensures { Narrowed rows.now result }
 {

@@ -62,7 +62,7 @@ pub fn divide_rows<K: Coefficients>(
     ensures { EvenRows (K.arithmetic kind.now) rows.now.width rows.now.codes.now by.now quotient.new result }
 {
     clear(kind, quotient);
-    // The quotient's rows by number: chunks of width 0 are refused.
+    // The quotient's rows by number: `chunks_exact_mut` wants a width above 0, and rows may have width 0.
     for (i, row) in rows.each().iter().enumerate() {
         let start = row_start(rows.width, i);
         let end = start + rows.width;

@@ -14,7 +14,7 @@ pub enum DivisionFault {
     Uneven,
 }
 
-// Beside the one of the same shape in polynomials: an impl of From names one error.
+// As for RowFault in polynomials: each error needs its own, since an impl of From is for one type.
 impl From<ReciprocalFault> for DivisionFault {
     ghost from_gives = { λ e r. r ≡ Reciprocal e };
 

@@ -6,6 +6,7 @@ use coefficients::kind::{Coefficients, ReciprocalFault};
 use polynomials::evaluate::horner;
 use polynomials::rows::{clear, lessen};
 
+// A function over slices of codes, so that lengths stand in clauses (docs/DECISIONS.md, Forms).
 // Joins the rows at different points: `rows` has 16 codes for each point, and `joined` 16 rows of 32 codes, which become the polynomials in y, of
 // degree below the number of points, that have these codes for values.
 pub fn join<K: Coefficients>(
@@ -44,7 +45,7 @@ fn correct<K: Coefficients>(
     ensures { Correction (K.arithmetic kind.now) master.now point values.now joined.old joined.new result }
 {
     let inverse = kind.reciprocal(horner(kind, master, point))?;
-    // Rows by number: after a loop over `chunks_exact_mut` a proof knows nothing of what was written.
+    // Rows by number: after a loop over `chunks_exact_mut` a proof knows at most the length of what was written.
     for (i, value) in values.iter().enumerate() {
         let row = &mut joined[32 * i..32 * i + 32];
         correct_row(kind, master, point, inverse, *value, row);

@@ -19,7 +19,7 @@ pub fn multiply_rows<K: Coefficients>(
     ensures { ManyTimes (K.arithmetic kind.now) rows.now.width rows.now.codes.now by.now product.new result }
 {
     clear(kind, product);
-    // The product's rows by number: chunks of width 0 are refused.
+    // The product's rows by number: `chunks_exact_mut` wants a width above 0, and rows may have width 0.
     for (i, row) in rows.each().iter().enumerate() {
         let start = row_start(rows.width, i);
         let end = start + rows.width;
