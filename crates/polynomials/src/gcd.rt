@@ -3,7 +3,7 @@ ghost use Rattle.std.specs.Prelude.{◌≡◌, length};
 ghost use Rattle.polynomials.specs.Steps.{MadeMonic, Common};
 ghost use Rattle.polynomials.specs.Calls.{Sharing};
 
-use crate::divide::{Divisor, reduce_row};
+use crate::divide::reduce_row;
 use crate::faults::RowFault;
 use crate::rows::{check_codes, scale, size};
 use coefficients::kind::{Coefficients, ReciprocalFault};
@@ -31,7 +31,7 @@ pub fn make_monic<K: Coefficients>(kind: &K, row: &mut [u64]) -> Result<usize, R
     if n == 0 {
         return Ok(0);
     }
-    let inverse = Divisor::new(kind, row)?.inverse();
+    let inverse = kind.reciprocal(row[n - 1])?;
     scale(kind, row, inverse);
     Ok(n)
 }

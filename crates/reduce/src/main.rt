@@ -15,6 +15,7 @@ use polynomials::evaluate::image;
 use polynomials::faults::RowFault;
 use polynomials::gcd::gcd;
 use std::io;
+use tables::content::take_content;
 use tables::lead::lead_gcd;
 use tables::rows::Rows;
 use text::Notation;
@@ -196,7 +197,7 @@ impl<K: Coefficients + Copy> Pair<K> {
     ) -> io::Result<[u64; 256]> {
         let mut content = [0; 16];
         let mut part = [0; 256];
-        match Rows::new(table, 16).take_content(&self.kind, &mut content, &mut part) {
+        match take_content(&self.kind, table, 16, &mut content, &mut part) {
             Ok(_) => {
                 let row = self.notation.row(&content, 'y');
                 let rest = self.notation.table(&part);

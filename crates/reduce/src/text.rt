@@ -1,6 +1,4 @@
 // Polynomials and refusals as people read them.
-ghost use Rattle.std.specs.Iterator.{IsFinite};
-
 use coefficients::kind::ReciprocalFault;
 use polynomials::faults::RowFault;
 use std::fmt;
@@ -82,19 +80,25 @@ fn terms(codes: &[u64]) -> usize {
     codes.iter().filter(|code| **code != 0).count()
 }
 
-// A sum of terms, or 0 where there is none.
-fn write_sum<W: fmt::Write, T: fmt::Display + Drop, I: Iterator<Item = T> + Drop>(
-    f: &mut fmt::Formatter<W>,
-    mut terms: I,
-) -> fmt::Result
-    requires can { I.can_next terms }
-    requires ends { IsFinite (I.remaining terms) }
-{
-    let Some(first) = terms.next() else {
+// What is written as a sum of terms.
+trait Polynomial {
+    type Term: fmt::Display + Drop;
+
+    // One more than the highest power that it may have.
+    fn powers(&self) -> usize;
+
+    // The term of a power, or nothing where its coefficient is zero.
+    fn term(&self, exponent: usize) -> Option<Self::Term>;
+}
+
+// The terms from the highest power down, or 0 where there is none.
+fn write_sum<W: fmt::Write, P: Polynomial>(f: &mut fmt::Formatter<W>, sum: &P) -> fmt::Result {
+    let mut exponents = (0..sum.powers()).rev();
+    let Some(first) = exponents.find_map(|exponent| sum.term(exponent)) else {
         return f.write_str("0");
     };
     write!(f, "{first}")?;
-    for term in terms {
+    for term in exponents.filter_map(|exponent| sum.term(exponent)) {
         write!(f, " + {term}")?;
     }
     Ok(())
@@ -124,25 +128,28 @@ pub struct Row<'a> {
     notation: Notation,
 }
 
+impl Polynomial for Row<'_> {
+    type Term = Term;
+
+    fn powers(&self) -> usize {
+        self.codes.len()
+    }
+
+    fn term(&self, exponent: usize) -> Option<Term> {
+        let code = *self.codes.get(exponent)?;
+        (code != 0).then_some(Term {
+            coefficient: self.notation.code(code),
+            power: Power {
+                unknown: self.unknown,
+                exponent,
+            },
+        })
+    }
+}
+
 impl fmt::Display for Row<'_> {
     fn fmt<W: fmt::Write>(&self, f: &mut fmt::Formatter<W>) -> fmt::Result {
-        let row = *self;
-        let shown = row
-            .codes
-            .iter()
-            .enumerate()
-            .rev()
-            .filter(|(_, code)| **code != 0);
-        write_sum(
-            f,
-            shown.map(|(exponent, code)| Term {
-                coefficient: row.notation.code(*code),
-                power: Power {
-                    unknown: row.unknown,
-                    exponent,
-                },
-            }),
-        )
+        write_sum(f, self)
     }
 }
 
@@ -179,22 +186,26 @@ pub struct Table<'a> {
     notation: Notation,
 }
 
+impl<'a> Polynomial for Table<'a> {
+    type Term = Coefficient<'a>;
+
+    fn powers(&self) -> usize {
+        self.codes.len().div_ceil(16)
+    }
+
+    fn term(&self, exponent: usize) -> Option<Coefficient<'a>> {
+        let start = exponent.checked_mul(16)?;
+        let codes = self.codes.get(start..)?.chunks(16).next()?;
+        (terms(codes) > 0).then_some(Coefficient {
+            row: self.notation.row(codes, 'y'),
+            exponent,
+        })
+    }
+}
+
 impl fmt::Display for Table<'_> {
     fn fmt<W: fmt::Write>(&self, f: &mut fmt::Formatter<W>) -> fmt::Result {
-        let table = *self;
-        let shown = table
-            .codes
-            .chunks(16)
-            .enumerate()
-            .rev()
-            .filter(|(_, row)| terms(row) > 0);
-        write_sum(
-            f,
-            shown.map(|(exponent, row)| Coefficient {
-                row: table.notation.row(row, 'y'),
-                exponent,
-            }),
-        )
+        write_sum(f, self)
     }
 }
 

@@ -1,5 +1,5 @@
 // The content of a polynomial in x and y, and what is left without it.
-ghost use Rattle.std.specs.Prelude.{◌≡◌, ℕ, ◌≤◌, List, length};
+ghost use Rattle.std.specs.Prelude.{◌≡◌, ℕ, ◌*◌, ◌≤◌, List, length};
 ghost use Rattle.polynomials.specs.Steps.{Common};
 ghost use Rattle.tables.specs.Content.{Gathering, Even, EvenRows, Parting};
 
@@ -71,6 +71,39 @@ pub fn divide_rows<K: Coefficients>(
     Ok(())
 }
 
+// Leaves the monic greatest common divisor of 16 rows of `width` codes in `content`, zero where they are all zero, and answers its size.
+// A function over a slice of codes, beside the method of a view of it (docs/DECISIONS.md, Forms); so is the next.
+pub fn content<K: Coefficients>(
+    kind: &K,
+    rows: &[u64],
+    width: usize,
+    content: &mut [u64],
+) -> Result<usize, ReciprocalFault>
+    requires sixteen { length rows.now ≡ 16 * width }
+    requires narrow { width ≤ 32 }
+    requires content { length content.old ≡ width }
+    ensures { Gathering (K.arithmetic kind.now) width rows.now content.new result }
+{
+    Rows::new(rows, width).content(kind, content)
+}
+
+// Leaves the content of 16 rows of `width` codes and the rows divided by it, and answers the content's size. Rows that are all zero are refused.
+pub fn take_content<K: Coefficients>(
+    kind: &K,
+    rows: &[u64],
+    width: usize,
+    content: &mut [u64],
+    part: &mut [u64],
+) -> Result<usize, DivisionFault>
+    requires sixteen { length rows.now ≡ 16 * width }
+    requires narrow { width ≤ 32 }
+    requires content { length content.old ≡ width }
+    requires part { length part.old ≡ length rows.now }
+    ensures { Parting (K.arithmetic kind.now) width rows.now part.old content.new part.new result }
+{
+    Rows::new(rows, width).take_content(kind, content, part)
+}
+
 impl Rows<'_> {
     // Leaves the monic greatest common divisor of the rows in `content`, zero where they are all zero, and answers its size.
     pub fn content<K: Coefficients>(
@@ -83,8 +116,9 @@ impl Rows<'_> {
     {
         clear(kind, content);
         let mut n = 0;
-        for row in self.each() {
-            n = gather_row(kind, row, content)?;
+        // By number, so that no row is made ready that is not reached.
+        for i in 0..16usize {
+            n = gather_row(kind, self.row(i), content)?;
             if n == 1 {
                 return Ok(n);
             }

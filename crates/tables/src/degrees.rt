@@ -25,10 +25,14 @@ impl Rows<'_> {
         ensures codes { SizedX (K.arithmetic kind.now) self.now.width self.now.codes.now result }
         ensures size { SizeX (K.arithmetic kind.now) self.now.width self.now.codes.now result }
     {
-        self.sizes(kind)
-            .iter()
-            .rposition(|n| *n > 0)
-            .map_or(0, |last| last + 1)
+        // From the last row on, and no further than to one that is not zero.
+        // By a loop: the proof did not close through a closure that sizes a row.
+        for i in (0..16usize).rev() {
+            if size(kind, self.row(i)) > 0 {
+                return i + 1;
+            }
+        }
+        0
     }
 
     // The size in y: the largest size of a row.

@@ -1,5 +1,6 @@
 use Rattle.std.proofs.Common.{◌≡◌, ℕ, length, subst, arith}
 use Rattle.polynomials.specs.Rows.{Sized}
+use Rattle.polynomials.specs.Steps.{Inverts}
 use Rattle.polynomials.proofs.Common.{scaled_inside, scaled_sized, scaled_normal, zero_normal}
 use Rattle.polynomials.proofs.gcd.make_monic.Goals as goal
 
@@ -13,8 +14,8 @@ returns g c h =
     let lw = g.met.K.Coefficients.laws c.args.kind.now in
     let row = c.args.row.now in
     let n = c.size-n.result in
-    let i = c.inverse-inverse.result in
-    let iv = (rw (c.in_ok-new.ensures.kind, c.in_ok-new.ensures.row) at c.inverse-inverse.ensures) n c.size-n.ensures in
+    let i = c.in_ok-inverse.inverse in
+    let iv : Inverts (g.K.Coefficients.arithmetic c.args.kind.now) row n i = let (lead_in, inside, is) = c.in_ok-inverse.ensures in record { some = omega arith; lead_in = lead_in; inside = inside; is = is } in
     let len : length c.scale.new.row ≡ length row = omega arith in (
       scaled_inside lw row c.scale.new.row n i h c.size-n.ensures iv len c.scale.ensures,
       scaled_sized lw row c.scale.new.row n i h c.size-n.ensures iv len c.scale.ensures,
