@@ -29,7 +29,7 @@ pub fn size<K: Coefficients>(kind: &K, row: &[u64]) -> usize
     ensures { Sized (K.arithmetic kind.now) row.now result }
 {
     let zero = kind.zero();
-    // By place: over the codes themselves the loop takes half as long again on long rows.
+    // By place: over the codes themselves the loop can take half as long again on long rows.
     (0..row.len())
         .rposition(|place| row[place] != zero)
         .map_or(0, |last| last + 1)
